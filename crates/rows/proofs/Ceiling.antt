@@ -1,0 +1,30 @@
+-- The quotient rounded up: the least number of b's that cover a.
+use Prim.Native.Nat.{ℕ, _+_, _-_, _*_, _/_, _%_, _<_, _≤_, min}
+use mathlib.Core.Path.{_≡_, sym, ap, _∙_}
+use mathlib.Core.Logic.{⊎-elim}
+use native.Mathlib.Omega.{arith}
+use Rattle.std.proofs.shelf.Bits.{div-mul-add, div-add-mod', mod-below}
+use Rattle.std.proofs.shelf.Tests.{cases-lt}
+use Rattle.rows.specs.Counting.{ceiling}
+
+-- q b's cover a, and one fewer do not
+pub ceiling-is : (a b q : ℕ) → 0 < b → a ≤ q * b → q * b < a + b → ceiling a b ≡ q
+ceiling-is a b q some covers tight =
+    let left : (a + (b - 1)) - q * b < b = omega arith in
+    let whole : a + (b - 1) ≡ q * b + ((a + (b - 1)) - q * b) = omega arith in
+    ap (λ n. n / b) whole ∙ div-mul-add q b _ left
+
+pub ceiling-covers : (a b : ℕ) → 0 < b → a ≤ ceiling a b * b
+ceiling-covers a b some = omega (arith, div-add-mod' (a + (b - 1)) b, mod-below (a + (b - 1)) b some)
+
+pub ceiling-tight : (a b : ℕ) → 0 < b → ceiling a b * b < a + b
+ceiling-tight a b some = omega (arith, div-add-mod' (a + (b - 1)) b)
+
+-- the quotient, and one more where something is left over
+pub ceiling-by-quotient : (a b : ℕ) → 0 < b → a / b + min 1 (a % b) ≡ ceiling a b
+ceiling-by-quotient a b some =
+    let split = div-add-mod' a b in
+    let low = mod-below a b some in
+    ⊎-elim (λ none. let e : min 1 (a % b) ≡ 0 = omega arith in rw e (sym (ceiling-is a b (a / b + 0) some (omega arith) (omega arith))))
+    (λ more. let e : min 1 (a % b) ≡ 1 = omega arith in rw e (sym (ceiling-is a b (a / b + 1) some (omega arith) (omega arith))))
+    (cases-lt (a % b) 1)
