@@ -1,0 +1,4 @@
+pub mod Instants
+pub mod Meaning
+pub mod Laws
+pub mod Supplied

@@ -1,0 +1,28 @@
+-- The two bounds that are supplied: exact steps and the linear tail.
+use Prim.Native.Nat.{ℕ, _+_, _-_, _*_, _/_, _%_}
+use mathlib.Core.Bool.{Bool, cond, _&&_}
+use lib.Dec.{eqb, leb}
+use Rattle.rows.specs.declared.tasks.Row.{Row}
+use Rattle.rows.specs.Counting.{horizon, steps}
+use Rattle.bounds.specs.Meaning.{Meaning}
+
+-- t is b × period − jitter for some b ≥ 1: just after it the exact steps rise
+abbrev pub rises : Row → ℕ → Bool
+rises r t = leb 1 t && eqb ((t + r .jitter) % r .period) 0
+
+-- the exact steps, in parts
+abbrev pub exact-steps : Meaning
+exact-steps = record { amount = λ h r t. h * steps r t; corner = rises; accuracy = 64; most = horizon }
+
+-- t is not past (k − 1) × period − jitter, where the linear tail begins
+abbrev pub before-tail : ℕ → Row → ℕ → Bool
+before-tail k r t = leb (t + r .jitter) ((k - 1) * r .period)
+
+-- the linear tail of accuracy k: exact up to its beginning, then a straight line that lies on or above the steps
+abbrev pub linear-tail : ℕ → Meaning
+linear-tail k = record {
+  amount = λ h r t. cond (before-tail k r t) (h * steps r t) (h * r .work + (t + r .jitter) * r .work * (h / r .period));
+  corner = λ r t. rises r t && before-tail k r t;
+  accuracy = k;
+  most = k - 1;
+}

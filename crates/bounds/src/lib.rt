@@ -1,0 +1,12 @@
+// Bounds on the demand of rows, behind one interface, and the two that are supplied.
+mod exact;
+mod interface;
+mod linear;
+mod releases;
+
+pub use exact::ExactSteps;
+pub use exact::ExactStepsBound;
+pub use interface::Bound;
+pub use interface::asked;
+pub use linear::LinearTail;
+pub use linear::LinearTailBound;
