@@ -2,12 +2,12 @@
 use Prim.Native.Nat.{ℕ, zero, suc, _+_, _-_, _<_, _≤_}
 use mathlib.Core.Bool.{Bool, true, false, cond}
 use mathlib.Core.Path.{_≡_, refl, sym, ap, _∙_, subst}
-use mathlib.Core.Logic.{_⊎_, inl, inr, ⊎-elim}
+use mathlib.Core.Logic.{⊎-elim}
 use native.Mathlib.Omega.{arith}
 use Rattle.std.specs.Options.{Cases}
 use Rattle.std.specs.declared.option.Option.{Option}
 use Rattle.std.specs.declared.option.Option.the-variants.{Some, None}
-use Rattle.std.proofs.shelf.Tests.{both-ways, cases-bool, cases-order, cases-lt}
+use Rattle.std.proofs.shelf.Tests.{both-ways, cases-order}
 use Rattle.bounds.specs.Instants.{least, count, First}
 
 module _ (p : ℕ → Bool) where
@@ -66,6 +66,15 @@ module _ (p : ℕ → Bool) where
       read : (o : Option ℕ) → Cases o ((i : ℕ) → s < i → i ≤ s + n → p i ≡ false) (First p s (s + n)) → o ≡ None
       read None _ = refl
       read (Some u) f = absurd (both-ways (p u) (none u (f .after) (f .within)) (f .holds))
+
+  -- what is answered about the instants after s, up to e, where something is asked: the first, or none
+  pub asked-some : (b : Bool) (s e d t : ℕ) → true ≡ b → First p s d t → t ≤ e → Some t ≡ cond b (least p (e - s) (s + 1)) None
+  asked-some true s e d t _ first within = sym (least-some (e - s) s d t first (omega (arith, first .after)))
+  asked-some false s e d t ask _ _ = absurd (both-ways true ask refl)
+
+  pub asked-none : (b : Bool) (s e : ℕ) → true ≡ b → ((i : ℕ) → s < i → i ≤ e → p i ≡ false) → None ≡ cond b (least p (e - s) (s + 1)) None
+  asked-none true s e _ none = sym (least-none (e - s) s (λ i low high. none i low (omega arith)))
+  asked-none false s e ask _ = absurd (both-ways true ask refl)
 
   -- one instant more
   pub count-more : (n : ℕ) (b : Bool) → p (suc n) ≡ b → count p (suc n) ≡ count p n + cond b 1 0

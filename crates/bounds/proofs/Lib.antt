@@ -1,1 +1,6 @@
 pub mod Instants
+pub mod Rising
+pub mod Asking
+pub mod Corners
+pub mod ExactLaws
+pub mod LinearLaws

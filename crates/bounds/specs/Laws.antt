@@ -17,7 +17,7 @@ pub record Laws (m : Meaning) : Type 0 where
   pub most-accuracy : m .accuracy ≤ 64
   -- between corners the amount does not bend upward
   pub bends : (h : ℕ) (r : Row) (t : ℕ) → asked h r t ≡ true → 1 ≤ t → t < horizon → m .corner r t ≡ false
-    → m .amount h r (t - 1) + m .amount h r (t + 1) ≤ 2 * m .amount h r t
+      → m .amount h r (t - 1) + m .amount h r (t + 1) ≤ 2 * m .amount h r t
   -- 0 is no corner
   pub starts : (r : Row) → m .corner r 0 ≡ false
   -- up to the horizon there are at most `most` corners

@@ -26,7 +26,11 @@ pub impl Bound for ExactSteps as ExactStepsBound {
             return None;
         }
         let corner = next_rise(row, after);
-        if corner <= HORIZON { Some(corner) } else { None }
+        if corner <= HORIZON {
+            Some(corner)
+        } else {
+            None
+        }
     }
 
     fn accuracy(&self) -> u32 {

@@ -13,23 +13,24 @@ impl Numbers {
     pub fn judge(&self, at: u32) -> Result<Row, Fault>
         ensures { λ r. ⌜ answer plain r ≡ checked (row-checks (now (self .entry)) at) (now (self .entry)) ⌝ }
     {
-        let refusal = if self.work == 0 {
-            Refusal::IdleRow
-        } else if u64::from(self.work) + u64::from(self.jitter) > u64::from(self.deadline) {
-            Refusal::NoWindow
-        } else if self.deadline > self.period {
-            Refusal::LateDeadline
-        } else if self.period > HORIZON {
-            Refusal::LongPeriod
-        } else {
-            return Ok(Row {
-                work: self.work,
-                deadline: self.deadline,
-                period: self.period,
-                jitter: self.jitter,
-            });
-        };
-        Err(Fault { refusal, at })
+        if self.work == 0 {
+            return Err(Refusal::IdleRow.at(at));
+        }
+        if u64::from(self.work) + u64::from(self.jitter) > u64::from(self.deadline) {
+            return Err(Refusal::NoWindow.at(at));
+        }
+        if self.deadline > self.period {
+            return Err(Refusal::LateDeadline.at(at));
+        }
+        if self.period > HORIZON {
+            return Err(Refusal::LongPeriod.at(at));
+        }
+        Ok(Row {
+            work: self.work,
+            deadline: self.deadline,
+            period: self.period,
+            jitter: self.jitter,
+        })
     }
 }
 

@@ -35,6 +35,16 @@ pub struct Fault {
 }
 
 impl Refusal {
+    // The fault of this refusal that tells a position.
+    pub fn at(self, position: u32) -> Fault
+        ensures { λ r. ⌜ r ≡ record { refusal = self; at = position } ⌝ }
+    {
+        Fault {
+            refusal: self,
+            at: position,
+        }
+    }
+
     // The number by which the refusal is known.
     pub fn number(&self) -> u8
         ensures { λ r. ⌜ r ≡ number (now (self .entry)) ⌝ }

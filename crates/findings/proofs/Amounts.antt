@@ -1,0 +1,107 @@
+-- The demand of a sound load: how large it is, and where it does not bend upward.
+use Prim.Native.Nat.{ℕ, zero, suc, _+_, _-_, _*_, _^_, _<_, _≤_}
+use mathlib.Core.Bool.{true, false, cond}
+use mathlib.Core.List.{List, [], _∷_}
+use mathlib.Core.Path.{_≡_, sym, ap, subst, _∙_}
+use mathlib.Core.Logic.{⊎-elim}
+use native.Mathlib.Omega.{arith}
+use lib.ListN.{length, getD, take}
+use Rattle.std.specs.shelf.Lists.{All, sumBy}
+use Rattle.std.proofs.shelf.Bits.{mul-le}
+use Rattle.std.proofs.shelf.Elements.{all-getD, all-weaker}
+use Rattle.std.proofs.shelf.Sums.{sumBy-cons, sumBy-le, sumBy-more, sumBy-take-le}
+use Rattle.std.proofs.shelf.Tests.{and-from, and-parts, cases-lt, cond-true, le-leb, leb-true, leb-false, lt-leb, or-parts}
+use Rattle.rows.specs.declared.tasks.Row.{Row}
+use Rattle.rows.specs.Counting.{horizon, is-frame, on-frame, steps}
+use Rattle.bounds.specs.Laws.{Laws}
+use Rattle.bounds.specs.Meaning.{Meaning, asked}
+use Rattle.bounds.proofs.Asking.{most-parts, steps-fit}
+use Rattle.findings.specs.Demand.{Load, load, demand, rests}
+use Rattle.findings.specs.Points.{any, bend}
+use Rattle.findings.specs.Sound.{Sound, Once-then-on}
+use Rattle.findings.proofs.Turning.{on-from}
+
+-- the largest amount that any bound can have: twice what the exact steps can have
+abbrev largest : ℕ
+largest = 2 * most-parts
+
+pub is-asked : (h : ℕ) (r : Row) (t : ℕ) → is-frame h ≡ true → on-frame h r ≡ true → t ≤ horizon → asked h r t ≡ true
+is-asked h r t frame on near = and-from _ _ (and-from _ _ frame on) (le-leb t horizon near)
+
+pub frame-low : (h : ℕ) → is-frame h ≡ true → 1 ≤ h
+frame-low h frame = leb-true 1 h (and-parts _ _ frame .0)
+
+frame-high : (h : ℕ) → is-frame h ≡ true → h ≤ horizon
+frame-high h frame = leb-true h horizon (and-parts _ _ frame .1)
+
+-- (k + 1) / k times as much is at most twice as much
+at-most-twice : (k f x : ℕ) → 1 ≤ k → k * f ≤ (k + 1) * x → x ≤ most-parts → f ≤ largest
+at-most-twice k f x some close small =
+    ⊎-elim (λ (over : 2 * x < f). absurd (let z : ⊥ = omega (arith, mul-le k (2 * x + 1) k f (omega arith) (omega arith), mul-le 1 x k x some (omega arith)) in z))
+    (λ (under : f ≤ 2 * x). omega arith)
+    (cases-lt (2 * x) f)
+
+module _ {m : Meaning} (laws : Laws m) where
+  amount-small : (h : ℕ) (r : Row) (t : ℕ) → is-frame h ≡ true → on-frame h r ≡ true → t ≤ horizon → m .amount h r t ≤ largest
+  amount-small h r t frame on near =
+      at-most-twice (m .accuracy) (m .amount h r t) (h * steps r t) (laws .some-accuracy) (laws .close h r t (is-asked h r t frame on near))
+      (steps-fit h r t (frame-high h frame) near)
+
+  sum-small : (h : ℕ) (rs : List Row) (t : ℕ) → is-frame h ≡ true → All (λ r. on-frame h r ≡ true) rs → t ≤ horizon → sumBy (λ r. m .amount h r t) rs ≤ length rs * largest
+  sum-small h rs t frame on near =
+      sumBy-le (λ r. m .amount h r t) largest rs (all-weaker (λ r. on-frame h r ≡ true) (λ r. m .amount h r t ≤ largest) (λ r o. amount-small h r t frame o near) rs on)
+
+  sum-bends : (h : ℕ) (rs : List Row) (t : ℕ) → is-frame h ≡ true → All (λ r. on-frame h r ≡ true) rs → suc t < horizon → any (λ r. m .corner r (suc t)) rs ≡ false
+    → sumBy (λ r. m .amount h r t) rs + sumBy (λ r. m .amount h r (suc (suc t))) rs ≤ 2 * sumBy (λ r. m .amount h r (suc t)) rs
+  sum-bends h [] t frame on near none = omega arith
+  sum-bends h (r ∷ rs) t frame on near none =
+      let parts = or-parts (m .corner r (suc t)) (any (λ r. m .corner r (suc t)) rs) none in
+      let here = laws .bends h r (suc t) (is-asked h r (suc t) frame (on .0) (omega arith)) (omega arith) near (parts .0) in
+      let e : suc t - 1 ≡ t = omega arith in
+      let e′ : suc t + 1 ≡ suc (suc t) = omega arith in
+      let low = ap (m .amount h r) e in
+      let high = ap (m .amount h r) e′ in
+      rw (sumBy-cons (λ r. m .amount h r t) r rs, sumBy-cons (λ r. m .amount h r (suc t)) r rs, sumBy-cons (λ r. m .amount h r (suc (suc t))) r rs)
+      (omega (arith, sum-bends h rs t frame (on .1) near (parts .1)))
+
+-- one row more adds its amount, as the bound answers it
+pub demand-more : (m : Meaning) (h own : ℕ) (rs : List Row) (i : ℕ) (r : Row) (t a : ℕ) → i < length rs → r ≡ getD rs i r → asked h r t ≡ true → a ≡ cond (asked h r t) (m .amount h r t) 0
+    → demand (load m h own (take i rs)) t + a ≡ demand (load m h own (take (i + 1) rs)) t
+demand-more m h own rs i r t a within read asks answered =
+    let more = sumBy-more (λ s. m .amount h s t) rs i r within in
+    let amount = answered ∙ cond-true _ _ _ asks in
+    omega (arith, ap (λ s. m .amount h s t) read)
+
+-- the rows seen so far demand no more than all of them
+pub demand-so-far : (m : Meaning) (h own : ℕ) (rs : List Row) (i t : ℕ) → demand (load m h own (take i rs)) t ≤ demand (load m h own rs) t
+demand-so-far m h own rs i t = omega (arith, sumBy-take-le (λ s. m .amount h s t) rs i)
+
+module _ (l : Load) (laws : Laws (l .bound)) (sound : Sound l) where
+  -- the demand fits 64 bits with room to spare
+  pub demand-small : (t : ℕ) → t ≤ horizon → l .own < 2 ^ 32 → demand l t < 2 ^ 63
+  demand-small t near fits =
+      let sum = sum-small laws (l .frame) (l .above) t (sound .frame) (sound .on) near in
+      let rows = mul-le (length (l .above)) largest 31 largest (sound .few) (omega arith) in
+      let own : l .frame * l .own ≤ 16777216 * 4294967296 = mul-le (l .frame) (l .own) 16777216 4294967296 (frame-high (l .frame) (sound .frame)) (omega arith) in
+      omega arith
+
+  -- a row above is one that the bound is asked about
+  pub asked-above : (i : ℕ) (r : Row) (t : ℕ) → i < length (l .above) → r ≡ getD (l .above) i r → t ≤ horizon → asked (l .frame) r t ≡ true
+  asked-above i r t within read near =
+      let on = all-getD (λ s. on-frame (l .frame) s ≡ true) (l .above) i r within (sound .on) in
+      is-asked (l .frame) r t (sound .frame) (subst (λ s. on-frame (l .frame) s ≡ true) (sym read) on) near
+
+  -- nothing is served at 0
+  pub no-rest-at-start : rests l 0 ≡ false
+  no-rest-at-start =
+      let some : 1 * 1 ≤ l .frame * l .own = mul-le 1 1 (l .frame) (l .own) (frame-low (l .frame) (sound .frame)) (sound .busy) in
+      lt-leb (demand l 0) (l .frame * 0) (omega arith)
+
+  -- once the row rests between p and q, it rests from there to q, where no row above has a corner between them
+  pub rests-on : (p q : ℕ) → q ≤ horizon → rests l p ≡ false → ((t : ℕ) → p < t → t < q → bend l t ≡ false) → Once-then-on (rests l) p q
+  rests-on p q near late straight i j after low high rest =
+      let e : i + (j - i) ≡ j = omega arith in
+      let on = on-from (demand l) (l .frame) p q (leb-false (demand l p) (l .frame * p) late)
+        (λ t from before. omega (arith, sum-bends laws (l .frame) (l .above) t (sound .frame) (sound .on) (omega arith) (straight (suc t) (omega arith) before)))
+        (j - i) i after (omega arith) (leb-true (demand l i) (l .frame * i) rest) in
+      le-leb (demand l j) (l .frame * j) (subst (λ x. demand l x ≤ l .frame * x) e on)

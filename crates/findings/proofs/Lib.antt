@@ -1,0 +1,6 @@
+pub mod Turning
+pub mod Amounts
+pub mod Nearest
+pub mod Standing
+pub mod Walk
+pub mod FixedPoint

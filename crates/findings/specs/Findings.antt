@@ -1,0 +1,53 @@
+-- The finding of a row: its first rest, and how many points are tested to know of it.
+use Prim.Native.Nat.{ℕ, _≤_}
+use mathlib.Core.Bool.{false}
+use mathlib.Core.Path.{_≡_}
+use Rattle.std.specs.Options.{Cases, valueOr}
+use Rattle.std.specs.declared.option.Option.{Option}
+use Rattle.std.specs.declared.option.Option.the-variants.{Some, None}
+use Rattle.bounds.specs.Instants.{least, count, First}
+use Rattle.findings.specs.declared.verdicts.Finding.{Finding}
+use Rattle.findings.specs.declared.verdicts.Verdict.{Verdict}
+use Rattle.findings.specs.declared.verdicts.Verdict.the-variants.{Meets, Misses}
+use Rattle.findings.specs.Demand.{Load, rests}
+use Rattle.findings.specs.Points.{test-point, accepts}
+
+-- a finding in numbers: the first rest, if there is one, and the points tested
+pub record Found : Type 0 where
+  pub rest : Option ℕ
+  pub points : ℕ
+
+-- the first rest that a verdict tells: none where the row misses
+abbrev pub told : Verdict → Option ℕ
+told (Meets t) = Some t
+told Misses = None
+
+-- what a finding tells, in numbers
+abbrev pub tells : Finding → Found
+tells f = record { rest = told (f .verdict); points = f .points }
+
+-- the first rest of a row that may rest up to last: the least instant from 1 on at which it rests
+unfoldable pub first-rest : Load → ℕ → Option ℕ
+first-rest l last = least (rests l) last 1
+
+-- where testing stops: at the least test point at which the row rests, or else at the last instant
+unfoldable pub stop : Load → ℕ → ℕ
+stop l last = valueOr (least (accepts l last) last 1) last
+
+-- points tested: how many instants up to where testing stops are test points
+unfoldable pub points : Load → ℕ → ℕ
+points l last = count (test-point l last) (stop l last)
+
+-- the finding about a row that may rest up to last
+abbrev pub finding : Load → ℕ → Found
+finding l last = record { rest = first-rest l last; points = points l last }
+
+-- what a finding says, for a reader who runs nothing
+pub record Says (l : Load) (last : ℕ) (f : Found) : Type 0 where
+  -- the first rest is an instant from 1 to last at which the row rests, and no earlier one is;
+  -- where the row misses, it rests at none of them
+  pub rest : Cases (f .rest) ((t : ℕ) → 1 ≤ t → t ≤ last → rests l t ≡ false) (First (rests l) 0 last)
+  -- the points are the number of distinct test points up to the first at which the row rests;
+  -- where the row misses, the number of all of them
+  pub points : Cases (f .rest) (f .points ≡ count (test-point l last) last)
+    (λ _. (s : ℕ) × First (accepts l last) 0 last s × (f .points ≡ count (test-point l last) s))

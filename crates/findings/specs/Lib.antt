@@ -1,0 +1,6 @@
+pub mod Demand
+pub mod Points
+pub mod Findings
+pub mod Asking
+pub mod Sound
+pub mod Exact

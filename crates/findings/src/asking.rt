@@ -1,0 +1,75 @@
+// The public questions about a row: its input is checked before anything is counted.
+ghost use mathlib.Core.Path.{_≡_};
+ghost use Rattle.std.specs.Vec.{made};
+ghost use Rattle.rows.specs.Answers.{answer, checked};
+ghost use Rattle.rows.specs.Counting.{window};
+ghost use Rattle.findings.specs.Asking.{checks, standing};
+ghost use Rattle.findings.specs.Demand.{load};
+ghost use Rattle.findings.specs.Findings.{tells, finding, Says};
+ghost use Rattle.findings.specs.Exact.{response, Responds};
+ghost use Rattle.findings.specs.Sound.{Fit};
+use crate::searching::search;
+use crate::verdicts::Finding;
+use bounds::Bound;
+use bounds::ExactSteps;
+use bounds::ExactStepsBound;
+
+use rows::Fault;
+use rows::Refusal;
+use rows::Row;
+use rows::is_frame;
+
+// A table has at most 32 rows, so at most 31 stand above one.
+const MOST_ABOVE: usize = 31;
+
+// How many rows from the top stand on the frame.
+fn standing(frame: u32, rows: &[Row]) -> usize
+    ensures { λ r. ⌜ r ≡ standing frame (now (rows .entry)) ⌝ }
+{
+    for (i, row) in rows.iter().enumerate() {
+        if !row.stands_on(frame) {
+            return i;
+        }
+    }
+    rows.len()
+}
+
+// What is checked of a question before anything is counted.
+fn check(frame: u32, row: &Row, above: &[Row]) -> Result<(), Fault>
+    ensures checked { λ r. ⌜ answer (λ u. u) r ≡ checked (checks frame (now (row .entry)) (now (above .entry))) tt ⌝ }
+    ensures sound { λ r. ⌜ made r (λ _. Fit frame (now (row .entry)) (now (above .entry))) ⌝ }
+{
+    if !is_frame(frame) {
+        return Err(Refusal::BadFrame.at(0));
+    }
+    if above.len() > MOST_ABOVE {
+        return Err(Refusal::FullTable.at(0));
+    }
+    let on = standing(frame, above);
+    if on < above.len() {
+        return Err(Refusal::OffFrame.at(on as u32 + 1));
+    }
+    if !row.stands_on(frame) {
+        return Err(Refusal::OffFrame.at(above.len() as u32 + 1));
+    }
+    Ok(())
+}
+
+// The finding about a row below others, by a bound.
+pub fn find<B: Bound>(bound: &B, frame: u32, row: &Row, above: &[Row]) -> Result<Finding, Fault>
+    ensures found { λ r. ⌜ answer tells r ≡ checked (checks frame (now (row .entry)) (now (above .entry))) (finding (load (meaning (now (bound .entry))) frame (now (row .entry) .work) (now (above .entry))) (window (now (row .entry)))) ⌝ }
+    ensures says { λ r. ⌜ made r (λ f. Says (load (meaning (now (bound .entry))) frame (now (row .entry) .work) (now (above .entry))) (window (now (row .entry))) (tells f)) ⌝ }
+{
+    check(frame, row, above)?;
+    Ok(search(bound, frame, row.work, above, row.window()))
+}
+
+// The response time of a row below others, in exact steps: none where it misses its deadline.
+pub fn response_time(frame: u32, row: &Row, above: &[Row]) -> Result<Option<u64>, Fault>
+    ensures responds { λ r. ⌜ answer (λ o. o) r ≡ checked (checks frame (now (row .entry)) (now (above .entry))) (response (now (row .entry)) (now (above .entry))) ⌝ }
+    ensures fixed { λ r. ⌜ made r (λ o. Responds (now (row .entry)) (now (above .entry)) o) ⌝ }
+{
+    check(frame, row, above)?;
+    let finding = search(&ExactSteps, frame, row.work, above, row.window());
+    Ok(finding.response_bound(row))
+}

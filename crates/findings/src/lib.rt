@@ -1,0 +1,10 @@
+// The findings of rows: the demand by a bound, and the search for the first rest.
+mod asking;
+mod demands;
+mod searching;
+mod verdicts;
+
+pub use asking::find;
+pub use asking::response_time;
+pub use verdicts::Finding;
+pub use verdicts::Verdict;

@@ -1,0 +1,5 @@
+mod table;
+
+fn main(rt: LibcRuntime) {
+    let _r = table::worked_rows();
+}
