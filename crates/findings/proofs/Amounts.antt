@@ -52,7 +52,7 @@ module _ {m : Meaning} (laws : Laws m) where
       sumBy-le (λ r. m .amount h r t) largest rs (all-weaker (λ r. on-frame h r ≡ true) (λ r. m .amount h r t ≤ largest) (λ r o. amount-small h r t frame o near) rs on)
 
   sum-bends : (h : ℕ) (rs : List Row) (t : ℕ) → is-frame h ≡ true → All (λ r. on-frame h r ≡ true) rs → suc t < horizon → any (λ r. m .corner r (suc t)) rs ≡ false
-    → sumBy (λ r. m .amount h r t) rs + sumBy (λ r. m .amount h r (suc (suc t))) rs ≤ 2 * sumBy (λ r. m .amount h r (suc t)) rs
+      → sumBy (λ r. m .amount h r t) rs + sumBy (λ r. m .amount h r (suc (suc t))) rs ≤ 2 * sumBy (λ r. m .amount h r (suc t)) rs
   sum-bends h [] t frame on near none = omega arith
   sum-bends h (r ∷ rs) t frame on near none =
       let parts = or-parts (m .corner r (suc t)) (any (λ r. m .corner r (suc t)) rs) none in
@@ -102,6 +102,6 @@ module _ (l : Load) (laws : Laws (l .bound)) (sound : Sound l) where
   rests-on p q near late straight i j after low high rest =
       let e : i + (j - i) ≡ j = omega arith in
       let on = on-from (demand l) (l .frame) p q (leb-false (demand l p) (l .frame * p) late)
-        (λ t from before. omega (arith, sum-bends laws (l .frame) (l .above) t (sound .frame) (sound .on) (omega arith) (straight (suc t) (omega arith) before)))
-        (j - i) i after (omega arith) (leb-true (demand l i) (l .frame * i) rest) in
+      (λ t from before. omega (arith, sum-bends laws (l .frame) (l .above) t (sound .frame) (sound .on) (omega arith) (straight (suc t) (omega arith) before)))
+      (j - i) i after (omega arith) (leb-true (demand l i) (l .frame * i) rest) in
       le-leb (demand l j) (l .frame * j) (subst (λ x. demand l x ≤ l .frame * x) e on)

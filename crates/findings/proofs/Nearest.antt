@@ -68,8 +68,8 @@ module _ (m : Meaning) (h own last : ℕ) (rs : List Row) (i : ℕ) (r : Row) (w
 
   -- so the first is the nearer of it and the row's next corner, as the bound answers it
   pub nearest-more : (after t : ℕ) → after < last → last ≤ horizon → First seen after last t → asked h r after ≡ true
-    → (o : Option ℕ) → o ≡ cond (asked h r after) (least (m .corner r) (horizon - after) (after + 1)) None
-    → Cases o (First seen-more after last t) (λ c. First seen-more after last (min t c))
+      → (o : Option ℕ) → o ≡ cond (asked h r after) (least (m .corner r) (horizon - after) (after + 1)) None
+      → Cases o (First seen-more after last t) (λ c. First seen-more after last (min t c))
   nearest-more after t before near first asks o is = at o (subst (λ x. Cases x ((j : ℕ) → after < j → j ≤ after + (horizon - after) → m .corner r j ≡ false) (First (m .corner r) after (after + (horizon - after)))) (sym (is ∙ cond-true _ _ _ asks)) (least-after (m .corner r) (horizon - after) after))
     where
       at : (o : Option ℕ) → Cases o ((j : ℕ) → after < j → j ≤ after + (horizon - after) → m .corner r j ≡ false) (First (m .corner r) after (after + (horizon - after))) → Cases o (First seen-more after last t) (λ c. First seen-more after last (min t c))

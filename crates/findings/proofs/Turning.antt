@@ -11,7 +11,6 @@ use Rattle.findings.specs.Sound.{Once-then-on}
 -- strictly between p and q
 module _ (G : ℕ → ℕ) (h p q : ℕ) (late : h * p < G p)
     (bends : (t : ℕ) → p ≤ t → suc t < q → G t + G (suc (suc t)) ≤ 2 * G (suc t)) where
-
   -- where the demand is served it has just grown by less than a unit
   slow : (n : ℕ) → suc (p + n) ≤ q → G (suc (p + n)) ≤ h * suc (p + n) → G (suc (p + n)) < G (p + n) + h
   slow zero within served = let e : p + zero ≡ p = omega arith in omega (arith, ap G e)

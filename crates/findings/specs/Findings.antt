@@ -50,4 +50,4 @@ pub record Says (l : Load) (last : ℕ) (f : Found) : Type 0 where
   -- the points are the number of distinct test points up to the first at which the row rests;
   -- where the row misses, the number of all of them
   pub points : Cases (f .rest) (f .points ≡ count (test-point l last) last)
-    (λ _. (s : ℕ) × First (accepts l last) 0 last s × (f .points ≡ count (test-point l last) s))
+      (λ _. (s : ℕ) × First (accepts l last) 0 last s × (f .points ≡ count (test-point l last) s))

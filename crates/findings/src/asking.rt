@@ -13,7 +13,6 @@ use crate::verdicts::Finding;
 use bounds::Bound;
 use bounds::ExactSteps;
 use bounds::ExactStepsBound;
-
 use rows::Fault;
 use rows::Refusal;
 use rows::Row;

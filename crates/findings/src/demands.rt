@@ -23,7 +23,14 @@ pub fn is_rest<B: Bound>(bound: &B, frame: u32, own: u32, above: &[Row], at: u32
 }
 
 // The first test point after the instant, for a row that may rest up to `last`.
-pub fn next_point<B: Bound>(bound: &B, frame: u32, own: u32, above: &[Row], after: u32, last: u32) -> u32
+pub fn next_point<B: Bound>(
+    bound: &B,
+    frame: u32,
+    own: u32,
+    above: &[Row],
+    after: u32,
+    last: u32,
+) -> u32
     requires sound { ⌜ Sound (load (meaning (now bound)) frame own (now above)) ⌝ }
     requires before { ⌜ after < last ⌝ }
     requires near { ⌜ last ≤ horizon ⌝ }

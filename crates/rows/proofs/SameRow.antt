@@ -1,7 +1,9 @@
 -- A row is known by its four numbers.
 use Prim.Native.Nat.{ℕ, _+_, _≤_}
-use mathlib.Core.Path.{_≡_, ap}
+use mathlib.Core.List.{List, [], _∷_, map}
+use mathlib.Core.Path.{_≡_, refl, ap₂}
 use mathlib.Core.HLevel.{isProp→PathP}
+use native.Mathlib.Omega.{arith}
 use native.Mathlib.Bridge.{le-prop}
 use Rattle.rows.specs.declared.tasks.Row.{Row}
 use Rattle.rows.specs.Judging.{plain}
@@ -19,3 +21,13 @@ same-row r s same =
       timely = isProp→PathP (λ j. same j .deadline ≤ same j .period) (λ j. le-prop) (r .timely) (s .timely) i;
       near = isProp→PathP (λ j. same j .period ≤ 16777216) (λ j. le-prop) (r .near) (s .near) i;
     }
+
+-- and so it is with lists of rows
+pub same-rows : (rs ss : List Row) → map plain rs ≡ map plain ss → rs ≡ ss
+same-rows [] [] same = refl
+same-rows [] (s ∷ ss) same = let z : _≡_ {A = ℕ} 0 1 = cc in absurd (let w : ⊥ = omega arith in w)
+same-rows (r ∷ rs) [] same = let z : _≡_ {A = ℕ} 0 1 = cc in absurd (let w : ⊥ = omega arith in w)
+same-rows (r ∷ rs) (s ∷ ss) same =
+    let first : plain r ≡ plain s = cc in
+    let rest : map plain rs ≡ map plain ss = cc in
+    ap₂ _∷_ (same-row r s first) (same-rows rs ss rest)

@@ -33,8 +33,8 @@ corners-of-b : (t : ℕ) → linear-tail 3 .corner row-b t ≡ (eqb t 5 || eqb t
 corners-of-b t =
     ⊎-elim (λ (early : t < 12). agrees (linear-tail 3 .corner row-b) (λ k. eqb k 5 || eqb k 11) 12 t refl early)
     (λ (late : 12 ≤ t).
-      and-right (rises row-b t) (before-tail 3 row-b t) (lt-leb (t + 1) 12 (omega arith))
-      ∙ sym (or-from (eqb t 5) (eqb t 11) (ne-eqb t 5 (λ e. omega arith)) (ne-eqb t 11 (λ e. omega arith))))
+    and-right (rises row-b t) (before-tail 3 row-b t) (lt-leb (t + 1) 12 (omega arith))
+    ∙ sym (or-from (eqb t 5) (eqb t 11) (ne-eqb t 5 (λ e. omega arith)) (ne-eqb t 11 (λ e. omega arith))))
     (cases-lt t 12)
 
 pub worked : Worked

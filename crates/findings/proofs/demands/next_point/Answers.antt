@@ -19,11 +19,13 @@ loop-row-again g c =
     let laws = g .B·Bound·met .lawful (c .args .bound .now) in
     let asks = asked-above l laws (c .pre .sound) (c .loop-row .row-index) (c .row-item .result) (c .args .after) (c .loop-row-test .taken) (c .row-item .is) (omega arith) in
     let more = nearest-more m (c .args .frame) (c .args .own) (c .args .last) (c .args .above .now) (c .loop-row .row-index) (c .row-item .result) (c .loop-row-test .taken) (c .row-item .is) (c .args .after) (c .loop-row .next) (c .pre .before) (c .pre .near) (c .loop-row .inv .1) asks (c .next-corner .result) (c .next-corner .ensures) in
-    let First-more = First (test-point (load m (c .args .frame) (c .args .own) (take (c .loop-row .row-index + 1) (c .args .above .now))) (c .args .last)) (c .args .after) (c .args .last) in
-    (omega (arith, c .loop-row-test .taken), elim (c .match-next-corner .came) [
-      in-Some w ↦ subst First-more (sym (w .next-is ∙ w .min-next .ensures)) (cases-at-some _ _ _ (w .in-Some .is) more)
-    | in-rest w ↦ subst First-more (sym (w .next-is)) (cases-at-none _ _ (w .in-rest .is) more)
-    ])
+    let First-more = First (test-point (load m (c .args .frame) (c .args .own) (take (c .loop-row .row-index + 1) (c .args .above .now))) (c .args .last)) (c .args .after) (c .args .last) in (
+      omega (arith, c .loop-row-test .taken),
+      elim (c .match-next-corner .came) [
+        | in-Some w ↦ subst First-more (sym (w .next-is ∙ w .min-next .ensures)) (cases-at-some _ _ _ (w .in-Some .is) more)
+        | in-rest w ↦ subst First-more (sym (w .next-is)) (cases-at-none _ _ (w .in-rest .is) more)
+      ],
+    )
 
 pub returns : need.returns
 returns g c =
