@@ -6,7 +6,7 @@ ghost use Rattle.bounds.specs.Supplied.{rises};
 use rows::Row;
 
 // The first instant after the given one just after which the row's steps rise.
-pub fn next_rise(row: &Row, after: u32) -> u32
+pub(crate) fn next_rise(row: &Row, after: u32) -> u32
     requires { ⌜ after ≤ horizon ⌝ }
     ensures { λ r. ⌜ First (rises (now (row .entry))) after (after + now (row .entry) .period) r ⌝ }
 {

@@ -18,7 +18,7 @@ use Rattle.bounds.specs.Meaning.{Meaning, asked}
 use Rattle.bounds.proofs.Asking.{most-parts, steps-fit}
 use Rattle.findings.specs.Demand.{Load, load, demand, rests}
 use Rattle.findings.specs.Points.{any, bend}
-use Rattle.findings.specs.Sound.{Sound, Once-then-on}
+use Rattle.findings.specs.Fitting.{Fit, Once-then-on}
 use Rattle.findings.proofs.Turning.{on-from}
 
 -- the largest amount that any bound can have: twice what the exact steps can have
@@ -76,32 +76,33 @@ demand-more m h own rs i r t a within read asks answered =
 pub demand-so-far : (m : Meaning) (h own : ℕ) (rs : List Row) (i t : ℕ) → demand (load m h own (take i rs)) t ≤ demand (load m h own rs) t
 demand-so-far m h own rs i t = omega (arith, sumBy-take-le (λ s. m .amount h s t) rs i)
 
-module _ (l : Load) (laws : Laws (l .bound)) (sound : Sound l) where
+-- a row above is one that the bound is asked about
+pub asked-above : (h : ℕ) (above : List Row) → Fit h above → (i : ℕ) (r : Row) (t : ℕ) → i < length above → r ≡ getD above i r → t ≤ horizon → asked h r t ≡ true
+asked-above h above fit i r t within read near =
+    let on = all-getD (λ s. on-frame h s ≡ true) above i r within (fit .on) in
+    is-asked h r t (fit .frame) (subst (λ s. on-frame h s ≡ true) (sym read) on) near
+
+module _ (l : Load) (laws : Laws (l .bound)) (fit : Fit (l .frame) (l .above)) where
   -- the demand fits 64 bits with room to spare
   pub demand-small : (t : ℕ) → t ≤ horizon → l .own < 2 ^ 32 → demand l t < 2 ^ 63
   demand-small t near fits =
-      let sum = sum-small laws (l .frame) (l .above) t (sound .frame) (sound .on) near in
-      let rows = mul-le (length (l .above)) largest 31 largest (sound .few) (omega arith) in
-      let own : l .frame * l .own ≤ 16777216 * 4294967296 = mul-le (l .frame) (l .own) 16777216 4294967296 (frame-high (l .frame) (sound .frame)) (omega arith) in
+      let sum = sum-small laws (l .frame) (l .above) t (fit .frame) (fit .on) near in
+      let rows = mul-le (length (l .above)) largest 31 largest (fit .few) (omega arith) in
+      let own : l .frame * l .own ≤ 16777216 * 4294967296 = mul-le (l .frame) (l .own) 16777216 4294967296 (frame-high (l .frame) (fit .frame)) (omega arith) in
       omega arith
 
-  -- a row above is one that the bound is asked about
-  pub asked-above : (i : ℕ) (r : Row) (t : ℕ) → i < length (l .above) → r ≡ getD (l .above) i r → t ≤ horizon → asked (l .frame) r t ≡ true
-  asked-above i r t within read near =
-      let on = all-getD (λ s. on-frame (l .frame) s ≡ true) (l .above) i r within (sound .on) in
-      is-asked (l .frame) r t (sound .frame) (subst (λ s. on-frame (l .frame) s ≡ true) (sym read) on) near
-
   -- nothing is served at 0
-  pub no-rest-at-start : rests l 0 ≡ false
-  no-rest-at-start =
-      let some : 1 * 1 ≤ l .frame * l .own = mul-le 1 1 (l .frame) (l .own) (frame-low (l .frame) (sound .frame)) (sound .busy) in
+  pub no-rest-at-start : 1 ≤ l .own → rests l 0 ≡ false
+  no-rest-at-start busy =
+      let some : 1 * 1 ≤ l .frame * l .own = mul-le 1 1 (l .frame) (l .own) (frame-low (l .frame) (fit .frame)) busy in
       lt-leb (demand l 0) (l .frame * 0) (omega arith)
 
   -- once the row rests between p and q, it rests from there to q, where no row above has a corner between them
-  pub rests-on : (p q : ℕ) → q ≤ horizon → rests l p ≡ false → ((t : ℕ) → p < t → t < q → bend l t ≡ false) → Once-then-on (rests l) p q
+  pub rests-on : (p q : ℕ) → q ≤ horizon → rests l p ≡ false → ((t : ℕ) → p < t → t < q → bend (l .bound) (l .above) t ≡ false) → Once-then-on (rests l) p q
   rests-on p q near late straight i j after low high rest =
       let e : i + (j - i) ≡ j = omega arith in
-      let on = on-from (demand l) (l .frame) p q (leb-false (demand l p) (l .frame * p) late)
-      (λ t from before. omega (arith, sum-bends laws (l .frame) (l .above) t (sound .frame) (sound .on) (omega arith) (straight (suc t) (omega arith) before)))
+      let on =
+      on-from (demand l) (l .frame) p q (leb-false (demand l p) (l .frame * p) late)
+      (λ t from before. omega (arith, sum-bends laws (l .frame) (l .above) t (fit .frame) (fit .on) (omega arith) (straight (suc t) (omega arith) before)))
       (j - i) i after (omega arith) (leb-true (demand l i) (l .frame * i) rest) in
       le-leb (demand l j) (l .frame * j) (subst (λ x. demand l x ≤ l .frame * x) e on)

@@ -17,7 +17,6 @@ use Rattle.rows.specs.Counting.{horizon}
 use Rattle.bounds.specs.Instants.{least, First}
 use Rattle.bounds.specs.Meaning.{Meaning, asked}
 use Rattle.bounds.proofs.Instants.{least-after}
-use Rattle.findings.specs.Demand.{load}
 use Rattle.findings.specs.Points.{any, test-point}
 
 -- one element more passes where the front or it does
@@ -34,12 +33,12 @@ first-like p q s e t first here none = record {
   none = λ i low high. none i low high (first .none i low high);
 }
 
-module _ (m : Meaning) (h own last : ℕ) (rs : List Row) (i : ℕ) (r : Row) (within : i < length rs) (read : r ≡ getD rs i r) where
+module _ (m : Meaning) (h last : ℕ) (rs : List Row) (i : ℕ) (r : Row) (within : i < length rs) (read : r ≡ getD rs i r) where
   abbrev seen : ℕ → Bool
-  seen = test-point (load m h own (take i rs)) last
+  seen = test-point m (take i rs) last
 
   abbrev seen-more : ℕ → Bool
-  seen-more = test-point (load m h own (take (i + 1) rs)) last
+  seen-more = test-point m (take (i + 1) rs) last
 
   -- with one row more, the test points gain its corners before the last instant
   gains : (t : ℕ) → seen-more t ≡ (seen t || (ltb t last && m .corner r t))

@@ -5,7 +5,7 @@ use mathlib.Core.Path.{_≡_, sym, ap, subst}
 use mathlib.Core.Logic.{⊎-elim}
 use native.Mathlib.Omega.{arith}
 use Rattle.std.proofs.shelf.Tests.{both-ways, cases-bool, cases-lt}
-use Rattle.findings.specs.Sound.{Once-then-on}
+use Rattle.findings.specs.Fitting.{Once-then-on}
 
 -- G is a demand counted in parts, h to a unit: at p it is not served, and it does not bend upward
 -- strictly between p and q

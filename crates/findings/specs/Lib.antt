@@ -2,5 +2,5 @@ pub mod Demand
 pub mod Points
 pub mod Findings
 pub mod Asking
-pub mod Sound
+pub mod Fitting
 pub mod Exact

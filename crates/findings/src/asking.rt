@@ -2,12 +2,10 @@
 ghost use mathlib.Core.Path.{_≡_};
 ghost use Rattle.std.specs.Vec.{made};
 ghost use Rattle.rows.specs.Answers.{answer, checked};
-ghost use Rattle.rows.specs.Counting.{window};
 ghost use Rattle.findings.specs.Asking.{checks, standing};
-ghost use Rattle.findings.specs.Demand.{load};
-ghost use Rattle.findings.specs.Findings.{tells, finding, Says};
+ghost use Rattle.findings.specs.Findings.{tells, row-finding, Row-says};
 ghost use Rattle.findings.specs.Exact.{response, Responds};
-ghost use Rattle.findings.specs.Sound.{Fit};
+ghost use Rattle.findings.specs.Fitting.{Fit};
 use crate::searching::search;
 use crate::verdicts::Finding;
 use bounds::Bound;
@@ -36,7 +34,7 @@ fn standing(frame: u32, rows: &[Row]) -> usize
 // What is checked of a question before anything is counted.
 fn check(frame: u32, row: &Row, above: &[Row]) -> Result<(), Fault>
     ensures checked { λ r. ⌜ answer (λ u. u) r ≡ checked (checks frame (now (row .entry)) (now (above .entry))) tt ⌝ }
-    ensures sound { λ r. ⌜ made r (λ _. Fit frame (now (row .entry)) (now (above .entry))) ⌝ }
+    ensures fit { λ r. ⌜ made r (λ _. Fit frame (now (above .entry))) ⌝ }
 {
     if !is_frame(frame) {
         return Err(Refusal::BadFrame.at(0));
@@ -56,8 +54,8 @@ fn check(frame: u32, row: &Row, above: &[Row]) -> Result<(), Fault>
 
 // The finding about a row below others, by a bound.
 pub fn find<B: Bound>(bound: &B, frame: u32, row: &Row, above: &[Row]) -> Result<Finding, Fault>
-    ensures found { λ r. ⌜ answer tells r ≡ checked (checks frame (now (row .entry)) (now (above .entry))) (finding (load (meaning (now (bound .entry))) frame (now (row .entry) .work) (now (above .entry))) (window (now (row .entry)))) ⌝ }
-    ensures says { λ r. ⌜ made r (λ f. Says (load (meaning (now (bound .entry))) frame (now (row .entry) .work) (now (above .entry))) (window (now (row .entry))) (tells f)) ⌝ }
+    ensures found { λ r. ⌜ answer tells r ≡ checked (checks frame (now (row .entry)) (now (above .entry))) (row-finding (meaning (now (bound .entry))) frame (now (row .entry)) (now (above .entry))) ⌝ }
+    ensures says { λ r. ⌜ made r (λ f. Row-says (meaning (now (bound .entry))) frame (now (row .entry)) (now (above .entry)) (tells f)) ⌝ }
 {
     check(frame, row, above)?;
     Ok(search(bound, frame, row.work, above, row.window()))

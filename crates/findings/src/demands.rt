@@ -1,17 +1,17 @@
 // The demand by a bound at an instant, and the next instant to test.
-ghost use Prim.Native.Nat.{_*_, _<_, _≤_};
+ghost use Prim.Native.Nat.{_<_, _≤_};
 ghost use mathlib.Core.Path.{_≡_};
 ghost use Rattle.rows.specs.Counting.{horizon};
 ghost use Rattle.bounds.specs.Instants.{First};
 ghost use Rattle.findings.specs.Demand.{load, rests};
 ghost use Rattle.findings.specs.Points.{test-point};
-ghost use Rattle.findings.specs.Sound.{Sound};
+ghost use Rattle.findings.specs.Fitting.{Fit};
 use bounds::Bound;
 use rows::Row;
 
 // Whether all that is demanded up to the instant is served by it.
-pub fn is_rest<B: Bound>(bound: &B, frame: u32, own: u32, above: &[Row], at: u32) -> bool
-    requires sound { ⌜ Sound (load (meaning (now bound)) frame own (now above)) ⌝ }
+pub(crate) fn is_rest<B: Bound>(bound: &B, frame: u32, own: u32, above: &[Row], at: u32) -> bool
+    requires fit { ⌜ Fit frame (now above) ⌝ }
     requires near { ⌜ at ≤ horizon ⌝ }
     ensures { λ r. ⌜ r ≡ rests (load (meaning (now (bound .entry))) frame own (now (above .entry))) at ⌝ }
 {
@@ -23,18 +23,17 @@ pub fn is_rest<B: Bound>(bound: &B, frame: u32, own: u32, above: &[Row], at: u32
 }
 
 // The first test point after the instant, for a row that may rest up to `last`.
-pub fn next_point<B: Bound>(
+pub(crate) fn next_point<B: Bound>(
     bound: &B,
     frame: u32,
-    own: u32,
     above: &[Row],
     after: u32,
     last: u32,
 ) -> u32
-    requires sound { ⌜ Sound (load (meaning (now bound)) frame own (now above)) ⌝ }
+    requires fit { ⌜ Fit frame (now above) ⌝ }
     requires before { ⌜ after < last ⌝ }
     requires near { ⌜ last ≤ horizon ⌝ }
-    ensures { λ r. ⌜ First (test-point (load (meaning (now (bound .entry))) frame own (now (above .entry))) last) after last r ⌝ }
+    ensures { λ r. ⌜ First (test-point (meaning (now (bound .entry))) (now (above .entry)) last) after last r ⌝ }
 {
     let mut next = last;
     for row in above {

@@ -1,12 +1,12 @@
 // The search for the first rest: one text for every bound.
-ghost use Prim.Native.Nat.{ℕ, _<_, _≤_};
+ghost use Prim.Native.Nat.{_<_, _≤_};
 ghost use mathlib.Core.Bool.{true};
 ghost use mathlib.Core.Path.{_≡_};
 ghost use Rattle.rows.specs.Counting.{horizon};
 ghost use Rattle.bounds.specs.Instants.{First};
 ghost use Rattle.findings.specs.Demand.{load, rests};
 ghost use Rattle.findings.specs.Findings.{tells, finding, Says};
-ghost use Rattle.findings.specs.Sound.{Sound, Once-then-on};
+ghost use Rattle.findings.specs.Fitting.{Fit, Once-then-on};
 use crate::demands::is_rest;
 use crate::demands::next_point;
 use crate::verdicts::Finding;
@@ -17,7 +17,7 @@ use rows::Row;
 // The first rest after `low`, where `high` is a rest and so is every instant from the first one
 // to `high`.
 fn bisect<B: Bound>(bound: &B, frame: u32, own: u32, above: &[Row], low: u32, high: u32) -> u32
-    requires sound { ⌜ Sound (load (meaning (now bound)) frame own (now above)) ⌝ }
+    requires fit { ⌜ Fit frame (now above) ⌝ }
     requires before { ⌜ low < high ⌝ }
     requires near { ⌜ high ≤ horizon ⌝ }
     requires rests { ⌜ rests (load (meaning (now bound)) frame own (now above)) high ≡ true ⌝ }
@@ -40,8 +40,9 @@ fn bisect<B: Bound>(bound: &B, frame: u32, own: u32, above: &[Row], low: u32, hi
 // The finding about a row with some own work that may rest up to `last`, below others. From test
 // point to test point; at the first at which the row rests, the first rest lies between the point
 // before and it.
-pub fn search<B: Bound>(bound: &B, frame: u32, own: u32, above: &[Row], last: u32) -> Finding
-    requires sound { ⌜ Sound (load (meaning (now bound)) frame own (now above)) ⌝ }
+pub(crate) fn search<B: Bound>(bound: &B, frame: u32, own: u32, above: &[Row], last: u32) -> Finding
+    requires fit { ⌜ Fit frame (now above) ⌝ }
+    requires busy { ⌜ 1 ≤ own ⌝ }
     requires some { ⌜ 1 ≤ last ⌝ }
     requires near { ⌜ last ≤ horizon ⌝ }
     ensures found { λ r. ⌜ tells r ≡ finding (load (meaning (now (bound .entry))) frame own (now (above .entry))) last ⌝ }
@@ -50,7 +51,7 @@ pub fn search<B: Bound>(bound: &B, frame: u32, own: u32, above: &[Row], last: u3
     let mut points = 0;
     let mut before = 0;
     while before < last {
-        let point = next_point(bound, frame, own, above, before, last);
+        let point = next_point(bound, frame, above, before, last);
         points += 1;
         if is_rest(bound, frame, own, above, point) {
             let rest = bisect(bound, frame, own, above, before, point);

@@ -1,6 +1,8 @@
 // Times, frames, and the exact count of a row's demand.
 ghost use mathlib.Core.Path.{_≡_};
+ghost use Rattle.rows.specs.Judging.{plain};
 ghost use Rattle.rows.specs.Counting.{is-frame, on-frame, window, steps};
+use crate::tasks::Numbers;
 use crate::tasks::Row;
 
 // The last instant that anything is asked about; no period and no frame is longer.
@@ -14,6 +16,18 @@ pub fn is_frame(frame: u32) -> bool
 }
 
 impl Row {
+    // The four numbers of the row.
+    pub fn numbers(&self) -> Numbers
+        ensures { λ r. ⌜ r ≡ plain (now (self .entry)) ⌝ }
+    {
+        Numbers {
+            work: self.work,
+            deadline: self.deadline,
+            period: self.period,
+            jitter: self.jitter,
+        }
+    }
+
     // The deadline less the jitter: the time left once the task is ready.
     pub fn window(&self) -> u32
         ensures { λ r. ⌜ r ≡ window (now (self .entry)) ⌝ }

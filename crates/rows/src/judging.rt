@@ -33,17 +33,3 @@ impl Numbers {
         })
     }
 }
-
-impl Row {
-    // The four numbers of the row.
-    pub fn numbers(&self) -> Numbers
-        ensures { λ r. ⌜ r ≡ plain (now (self .entry)) ⌝ }
-    {
-        Numbers {
-            work: self.work,
-            deadline: self.deadline,
-            period: self.period,
-            jitter: self.jitter,
-        }
-    }
-}

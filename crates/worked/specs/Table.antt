@@ -6,11 +6,10 @@ use mathlib.Core.Path.{_≡_}
 use lib.Dec.{eqb, lit≤}
 use Rattle.std.specs.declared.option.Option.the-variants.{Some, None}
 use Rattle.rows.specs.declared.tasks.Row.{Row}
-use Rattle.rows.specs.Counting.{window, steps}
+use Rattle.rows.specs.Counting.{steps}
 use Rattle.bounds.specs.Meaning.{Meaning}
 use Rattle.bounds.specs.Supplied.{exact-steps, linear-tail}
-use Rattle.findings.specs.Demand.{load}
-use Rattle.findings.specs.Findings.{Found, finding}
+use Rattle.findings.specs.Findings.{Found, row-finding}
 
 -- the rows, by work, deadline, period and jitter
 abbrev pub row-a : Row
@@ -24,7 +23,7 @@ row-e = record { work = 3; deadline = 12; period = 12; jitter = 0; busy = lit≤
 
 -- the finding about a row below others on the frame of 12
 abbrev pub found : Meaning → Row → List Row → Found
-found m r above = finding (load m 12 (r .work) above) (window r)
+found m r above = row-finding m 12 r above
 
 -- a first rest with the points tested, and a miss with the points tested
 abbrev pub meets : ℕ → ℕ → Found

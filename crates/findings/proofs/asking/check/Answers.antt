@@ -5,4 +5,7 @@ use Rattle.findings.proofs.Standing.{all-from-leading}
 use Rattle.findings.proofs.asking.check.Needs as need
 
 pub returns : need.returns
-returns c = record { checked = search needs; sound = record { frame = search needs; few = search needs; on = all-from-leading (on-frame (c .args .frame)) (c .args .above .now) (omega arith); own = search needs } }
+returns c = record {
+  checked = search needs;
+  fit = record { frame = search needs; few = search needs; on = all-from-leading (on-frame (c .args .frame)) (c .args .above .now) (omega arith) };
+}

@@ -5,7 +5,6 @@ use lib.ListN.{take}
 use lib.Seq.{take-all}
 use Rattle.std.proofs.shelf.Results.{cases-at-some, cases-at-none}
 use Rattle.bounds.specs.Instants.{First}
-use Rattle.findings.specs.Demand.{load}
 use Rattle.findings.specs.Points.{test-point}
 use Rattle.findings.proofs.Amounts.{asked-above}
 use Rattle.findings.proofs.Nearest.{nearest-more}
@@ -15,11 +14,11 @@ use Rattle.findings.proofs.demands.next_point.Needs.{in-Some, in-rest}
 pub loop-row-again : need.loop-row-again
 loop-row-again g c =
     let m = g .B·Bound .meaning (c .args .bound .now) in
-    let l = load m (c .args .frame) (c .args .own) (c .args .above .now) in
-    let laws = g .B·Bound·met .lawful (c .args .bound .now) in
-    let asks = asked-above l laws (c .pre .sound) (c .loop-row .row-index) (c .row-item .result) (c .args .after) (c .loop-row-test .taken) (c .row-item .is) (omega arith) in
-    let more = nearest-more m (c .args .frame) (c .args .own) (c .args .last) (c .args .above .now) (c .loop-row .row-index) (c .row-item .result) (c .loop-row-test .taken) (c .row-item .is) (c .args .after) (c .loop-row .next) (c .pre .before) (c .pre .near) (c .loop-row .inv .1) asks (c .next-corner .result) (c .next-corner .ensures) in
-    let First-more = First (test-point (load m (c .args .frame) (c .args .own) (take (c .loop-row .row-index + 1) (c .args .above .now))) (c .args .last)) (c .args .after) (c .args .last) in (
+    let asks = asked-above (c .args .frame) (c .args .above .now) (c .pre .fit) (c .loop-row .row-index) (c .row-item .result) (c .args .after) (c .loop-row-test .taken) (c .row-item .is) (omega arith) in
+    let more =
+    nearest-more m (c .args .frame) (c .args .last) (c .args .above .now) (c .loop-row .row-index) (c .row-item .result) (c .loop-row-test .taken) (c .row-item .is) (c .args .after) (c .loop-row .next)
+    (c .pre .before) (c .pre .near) (c .loop-row .inv .1) asks (c .next-corner .result) (c .next-corner .ensures) in
+    let First-more = First (test-point m (take (c .loop-row .row-index + 1) (c .args .above .now)) (c .args .last)) (c .args .after) (c .args .last) in (
       omega (arith, c .loop-row-test .taken),
       elim (c .match-next-corner .came) [
         | in-Some w ↦ subst First-more (sym (w .next-is ∙ w .min-next .ensures)) (cases-at-some _ _ _ (w .in-Some .is) more)
@@ -31,4 +30,4 @@ pub returns : need.returns
 returns g c =
     let m = g .B·Bound .meaning (c .args .bound .now) in
     let all = take-all (c .loop-row .row-index) (c .args .above .now) (c .loop-row-test .left) in
-    subst (λ rs. First (test-point (load m (c .args .frame) (c .args .own) rs) (c .args .last)) (c .args .after) (c .args .last) (c .loop-row .next)) all (c .loop-row .inv .1)
+    subst (λ rs. First (test-point m rs (c .args .last)) (c .args .after) (c .args .last) (c .loop-row .next)) all (c .loop-row .inv .1)

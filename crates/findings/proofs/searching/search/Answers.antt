@@ -4,25 +4,25 @@ use native.Mathlib.Omega.{arith}
 use Rattle.bounds.specs.Instants.{count}
 use Rattle.bounds.proofs.Instants.{count-le}
 use Rattle.findings.specs.Demand.{Load, load}
-use Rattle.findings.specs.Points.{test-point}
+use Rattle.findings.specs.Findings.{tested}
 use Rattle.findings.proofs.Walk.{Passed, start, turns-once, pass, meets, meets-says, misses, misses-says}
 use Rattle.findings.proofs.searching.search.Needs as need
 
 pub loop-before-holds : need.loop-before-holds
-loop-before-holds g c = start _ (c .args .last) (g .B·Bound·met .lawful (c .args .bound .now)) (c .pre .sound)
+loop-before-holds g c = start _ (c .args .last) (g .B·Bound·met .lawful (c .args .bound .now)) (c .pre .fit) (c .pre .busy)
 
 pub add-points : need.add-points
 add-points g c =
     let l = load (g .B·Bound .meaning (c .args .bound .now)) (c .args .frame) (c .args .own) (c .args .above .now) in
-    omega (arith, c .loop-before .inv .counted, count-le (test-point l (c .args .last)) (c .loop-before .before))
+    omega (arith, c .loop-before .inv .counted, count-le (tested l (c .args .last)) (c .loop-before .before))
 
 pub bisect-rest-requires : need.bisect-rest-requires
 bisect-rest-requires g c κs = record {
-  sound = c .pre .sound;
+  fit = c .pre .fit;
   before = c .next-point-point .ensures .after;
   near = omega (arith, c .next-point-point .ensures .within);
   rests = sym (c .if-is-rest .ensures tt);
-  on = turns-once _ _ (g .B·Bound·met .lawful (c .args .bound .now)) (c .pre .sound) (c .pre .near) _ _ _ (c .loop-before .inv) (c .next-point-point .ensures);
+  on = turns-once _ _ (g .B·Bound·met .lawful (c .args .bound .now)) (c .pre .fit) (c .pre .near) _ _ _ (c .loop-before .inv) (c .next-point-point .ensures);
 }
 
 pub returns-then-is-rest : need.returns-then-is-rest
@@ -30,13 +30,13 @@ returns-then-is-rest g c =
     let laws = g .B·Bound·met .lawful (c .args .bound .now) in
     let served = sym (c .if-is-rest .ensures tt) in
     record {
-      found = meets _ _ laws (c .pre .sound) (c .pre .near) _ _ _ _ (c .loop-before .inv) (c .next-point-point .ensures) served (c .bisect-rest .ensures);
-      says = meets-says _ _ laws (c .pre .sound) (c .pre .near) _ _ _ _ (c .loop-before .inv) (c .next-point-point .ensures) served (c .bisect-rest .ensures);
+      found = meets _ _ laws (c .pre .fit) (c .pre .near) _ _ _ _ (c .loop-before .inv) (c .next-point-point .ensures) served (c .bisect-rest .ensures);
+      says = meets-says _ _ laws (c .pre .fit) (c .pre .near) _ _ _ _ (c .loop-before .inv) (c .next-point-point .ensures) served (c .bisect-rest .ensures);
     }
 
 pub loop-before-again : need.loop-before-again
 loop-before-again g c =
-    pass _ _ (g .B·Bound·met .lawful (c .args .bound .now)) (c .pre .sound) (c .pre .near) _ _ _ (c .loop-before .inv) (c .next-point-point .ensures) (sym (c .if-is-rest .ensures tt))
+    pass _ _ (g .B·Bound·met .lawful (c .args .bound .now)) (c .pre .fit) (c .pre .near) _ _ _ (c .loop-before .inv) (c .next-point-point .ensures) (sym (c .if-is-rest .ensures tt))
 
 pub returns : need.returns
 returns g c =
@@ -45,6 +45,6 @@ returns g c =
     let e : c .loop-before .before ≡ c .args .last = omega (arith, c .loop-before .inv .within) in
     let passed = subst (λ t. Passed l (c .args .last) t (c .loop-before .points)) e (c .loop-before .inv) in
     record {
-      found = misses _ _ laws (c .pre .sound) (c .pre .near) _ passed;
-      says = misses-says _ _ laws (c .pre .sound) (c .pre .near) _ passed;
+      found = misses _ _ laws (c .pre .fit) (c .pre .near) _ passed;
+      says = misses-says _ _ laws (c .pre .fit) (c .pre .near) _ passed;
     }

@@ -1,0 +1,20 @@
+-- What is known of the rows above once they have passed their checks.
+use Prim.Native.Nat.{ℕ, _<_, _≤_}
+use mathlib.Core.Bool.{Bool, true}
+use mathlib.Core.List.{List}
+use mathlib.Core.Path.{_≡_}
+use lib.ListN.{length}
+use Rattle.std.specs.shelf.Lists.{All}
+use Rattle.rows.specs.declared.tasks.Row.{Row}
+use Rattle.rows.specs.Counting.{is-frame, on-frame}
+use Rattle.findings.specs.Asking.{most-above}
+
+-- the frame is one, and at most 31 rows are above, all of which stand on it
+pub record Fit (h : ℕ) (above : List Row) : Type 0 where
+  pub frame : is-frame h ≡ true
+  pub few : length above ≤ most-above
+  pub on : All (λ r. on-frame h r ≡ true) above
+
+-- once some instant after s and up to e has p, so have all from it to e
+abbrev pub Once-then-on : (ℕ → Bool) → ℕ → ℕ → Type 0
+Once-then-on p s e = (i j : ℕ) → s < i → i ≤ j → j ≤ e → p i ≡ true → p j ≡ true
