@@ -1,5 +1,9 @@
 // Examples of the toolkit's calls, as tests: numbers at the edges, and answers counted by hand.
 #[cfg(test)]
+mod bounded;
+#[cfg(test)]
+mod building;
+#[cfg(test)]
 mod judged;
 #[cfg(test)]
 mod searched;

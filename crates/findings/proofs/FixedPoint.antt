@@ -2,7 +2,7 @@
 use Prim.Native.Nat.{ℕ, zero, suc, _+_, _-_, _*_, _<_, _≤_}
 use mathlib.Core.Bool.{Bool, true, false}
 use mathlib.Core.List.{List, [], _∷_}
-use mathlib.Core.Path.{_≡_, refl, sym, ap, ap₂, fun-ext, subst, _∙_}
+use mathlib.Core.Path.{_≡_, refl, sym, ap, fun-ext, subst, _∙_}
 use mathlib.Core.Logic.{⊎-elim}
 use native.Mathlib.Omega.{arith}
 use lib.Dec.{leb}
@@ -21,7 +21,7 @@ use Rattle.bounds.proofs.Instants.{least-after}
 use Rattle.bounds.proofs.Rising.{steps-grow}
 use Rattle.findings.specs.Demand.{load, rests}
 use Rattle.findings.specs.Exact.{exact-demand, exact-rests, response, Least-fixed-point, Responds}
-use Rattle.findings.specs.Findings.{Found, first-rest, finding}
+use Rattle.findings.specs.Findings.{Found, first-rest, finding, row-finding}
 
 -- a factor goes before a sum
 sum-scaled : {X : Type 0} (h : ℕ) (f : X → ℕ) (xs : List X) → sumBy (λ x. h * f x) xs ≡ h * sumBy f xs
@@ -36,6 +36,10 @@ leb-scaled h a b some =
     (λ (under : a ≤ b). le-leb (h * a) (h * b) (mul-le h a h b (omega arith) under) ∙ sym (le-leb a b under))
     (cases-lt b a)
 
+-- what is found up to an instant that is the window is the finding about the row
+pub found-at-window : (h : ℕ) (r : Row) (above : List Row) (f : Found) (last : ℕ) → last ≡ window r → f ≡ finding (load exact-steps h (r .work) above) last → f ≡ row-finding exact-steps h r above
+found-at-window h r above f last e found = found ∙ ap (finding (load exact-steps h (r .work) above)) e
+
 module _ (h : ℕ) (r : Row) (above : List Row) (some : 1 ≤ h) where
   -- by exact steps a row rests where it does with no frame
   rests-exactly : (t : ℕ) → rests (load exact-steps h (r .work) above) t ≡ exact-rests r above t
@@ -44,10 +48,9 @@ module _ (h : ℕ) (r : Row) (above : List Row) (some : 1 ≤ h) where
       ap (λ n. leb n (h * t)) whole ∙ leb-scaled h (exact-demand r above t) t some
 
   -- so the response time is the first rest of the exact count plus the jitter
-  pub response-is : (f : Found) (last : ℕ) → last ≡ window r → f ≡ finding (load exact-steps h (r .work) above) last → mapped (λ t. t + r .jitter) (f .rest) ≡ response r above
+  pub response-is : mapped (λ t. t + r .jitter) (row-finding exact-steps h r above .rest) ≡ response r above
   unfolding first-rest response
-  response-is f last e found =
-      ap (λ g. mapped (λ t. t + r .jitter) (g .rest)) found ∙ ap₂ (λ p n. mapped (λ t. t + r .jitter) (least p n 1)) (fun-ext rests-exactly) e
+  response-is = ap (λ p. mapped (λ t. t + r .jitter) (least p (window r) 1)) (fun-ext rests-exactly)
 
 module _ (r : Row) (above : List Row) where
   -- the exact demand never falls

@@ -1,5 +1,8 @@
 // The public questions about a row: its input is checked before anything is counted.
+ghost use Prim.Native.Nat.{_+_};
 ghost use mathlib.Core.Path.{_≡_};
+ghost use Rattle.std.specs.Options.{mapped};
+ghost use Rattle.bounds.specs.Supplied.{exact-steps};
 ghost use Rattle.std.specs.Vec.{made};
 ghost use Rattle.rows.specs.Answers.{answer, checked};
 ghost use Rattle.findings.specs.Asking.{checks, standing};
@@ -64,6 +67,7 @@ pub fn find<B: Bound>(bound: &B, frame: u32, row: &Row, above: &[Row]) -> Result
 // The response time of a row below others, in exact steps: none where it misses its deadline.
 pub fn response_time(frame: u32, row: &Row, above: &[Row]) -> Result<Option<u64>, Fault>
     ensures responds { λ r. ⌜ answer (λ o. o) r ≡ checked (checks frame (now (row .entry)) (now (above .entry))) (response (now (row .entry)) (now (above .entry))) ⌝ }
+    ensures first { λ r. ⌜ made r (λ o. o ≡ mapped (λ t. t + now (row .entry) .jitter) (row-finding exact-steps frame (now (row .entry)) (now (above .entry)) .rest)) ⌝ }
     ensures fixed { λ r. ⌜ made r (λ o. Responds (now (row .entry)) (now (above .entry)) o) ⌝ }
 {
     check(frame, row, above)?;

@@ -1,0 +1,19 @@
+// Short ways to write down rows.
+use rows::Fault;
+use rows::Numbers;
+use rows::Row;
+
+// Four plain numbers: work, deadline, period and jitter.
+pub fn numbers(work: u32, deadline: u32, period: u32, jitter: u32) -> Numbers {
+    Numbers {
+        work,
+        deadline,
+        period,
+        jitter,
+    }
+}
+
+// The row of four numbers.
+pub fn row(work: u32, deadline: u32, period: u32, jitter: u32) -> Result<Row, Fault> {
+    numbers(work, deadline, period, jitter).judge(0)
+}
