@@ -2,9 +2,9 @@
 ghost use Prim.Native.Nat.{_+_};
 ghost use mathlib.Core.Path.{_≡_};
 ghost use Rattle.std.specs.Options.{mapped};
-ghost use Rattle.bounds.specs.Supplied.{exact-steps};
 ghost use Rattle.std.specs.Vec.{made};
 ghost use Rattle.rows.specs.Answers.{answer, checked};
+ghost use Rattle.bounds.specs.Supplied.{exact-steps};
 ghost use Rattle.findings.specs.Asking.{checks, standing};
 ghost use Rattle.findings.specs.Findings.{tells, row-finding, Row-says};
 ghost use Rattle.findings.specs.Exact.{response, Responds};

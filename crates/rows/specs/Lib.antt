@@ -1,4 +1,5 @@
 pub mod Refusals
+pub mod Shown
 pub mod Answers
 pub mod Counting
 pub mod Judging

@@ -1,6 +1,8 @@
 // Why a call was refused, and where. One enum and one fault for every layer of the toolkit.
 ghost use mathlib.Core.Path.{_≡_};
 ghost use Rattle.rows.specs.Refusals.{number, words};
+ghost use Rattle.rows.specs.Shown.{shown-fault};
+ghost use Rattle.std.specs.declared.option.Option.the-variants.{Some};
 ghost use Rattle.std.specs.Orderings.{Decides};
 use std::error::Error;
 use std::fmt;
@@ -97,6 +99,8 @@ pub impl Eq for Refusal as RefusalEq {}
 
 // A fault as a person reads it: "refusal 8, off frame, at 3".
 pub impl fmt::Display for Fault as FaultDisplay {
+    ghost shown = { λ x. Some (shown-fault x) };
+
     fn fmt<W: fmt::Write>(&self, f: &mut fmt::Formatter<W>) -> fmt::Result {
         let number = self.refusal.number();
         let words = self.refusal.words();
