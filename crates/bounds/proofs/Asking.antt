@@ -7,7 +7,8 @@ use lib.Dec.{leb}
 use Rattle.std.proofs.shelf.Bits.{div-add-mod', mul-le}
 use Rattle.std.proofs.shelf.Tests.{and-parts, leb-true, eqb-true}
 use Rattle.rows.specs.declared.tasks.Row.{Row}
-use Rattle.rows.specs.Counting.{horizon, is-frame, on-frame, ceiling, steps}
+use Rattle.rows.specs.Times.{horizon, is-frame, ceiling}
+use Rattle.rows.specs.Counting.{on-frame, steps}
 use Rattle.rows.proofs.Ceiling.{ceiling-tight}
 use Rattle.bounds.specs.Meaning.{asked}
 

@@ -5,7 +5,8 @@ use mathlib.Core.Path.{_≡_, refl}
 use native.Mathlib.Omega.{arith}
 use Rattle.std.proofs.shelf.Bits.{mul-le}
 use Rattle.rows.specs.declared.tasks.Row.{Row}
-use Rattle.rows.specs.Counting.{horizon, steps}
+use Rattle.rows.specs.Times.{horizon}
+use Rattle.rows.specs.Counting.{steps}
 use Rattle.bounds.specs.Laws.{Laws}
 use Rattle.bounds.specs.Supplied.{rises, exact-steps}
 use Rattle.bounds.proofs.Instants.{count-le}

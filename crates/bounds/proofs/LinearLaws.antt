@@ -8,7 +8,8 @@ use native.Mathlib.Omega.{arith}
 use Rattle.std.proofs.shelf.Bits.{mul-le}
 use Rattle.std.proofs.shelf.Tests.{leb-false, cond-both, cases-bool}
 use Rattle.rows.specs.declared.tasks.Row.{Row}
-use Rattle.rows.specs.Counting.{horizon, ceiling, steps}
+use Rattle.rows.specs.Times.{horizon, ceiling}
+use Rattle.rows.specs.Counting.{steps}
 use Rattle.rows.proofs.Ceiling.{ceiling-covers, ceiling-tight}
 use Rattle.bounds.specs.Laws.{Laws}
 use Rattle.bounds.specs.Supplied.{rises, before-tail, linear-tail}

@@ -9,7 +9,8 @@ use lib.Dec.{leb, eqb}
 use Rattle.std.proofs.shelf.Bits.{div-add-mod', mod-below, mul-le}
 use Rattle.std.proofs.shelf.Tests.{and-parts, and-from, leb-true, le-leb, eqb-true, eq-eqb, cases-bool, both-ways}
 use Rattle.rows.specs.declared.tasks.Row.{Row}
-use Rattle.rows.specs.Counting.{ceiling, steps}
+use Rattle.rows.specs.Times.{ceiling}
+use Rattle.rows.specs.Counting.{steps}
 use Rattle.rows.proofs.Ceiling.{ceiling-is, ceiling-covers, ceiling-tight}
 use Rattle.bounds.specs.Instants.{First}
 use Rattle.bounds.specs.Supplied.{rises, Rising}

@@ -3,7 +3,8 @@ use Prim.Native.Nat.{ℕ, _+_, _-_, _*_, _<_, _≤_}
 use mathlib.Core.Bool.{true, false}
 use mathlib.Core.Path.{_≡_}
 use Rattle.rows.specs.declared.tasks.Row.{Row}
-use Rattle.rows.specs.Counting.{horizon, steps}
+use Rattle.rows.specs.Times.{horizon}
+use Rattle.rows.specs.Counting.{steps}
 use Rattle.bounds.specs.Instants.{count}
 use Rattle.bounds.specs.Meaning.{Meaning, asked}
 

@@ -3,7 +3,8 @@ use Prim.Native.Nat.{ℕ}
 use mathlib.Core.Bool.{Bool, _&&_}
 use lib.Dec.{leb}
 use Rattle.rows.specs.declared.tasks.Row.{Row}
-use Rattle.rows.specs.Counting.{horizon, is-frame, on-frame}
+use Rattle.rows.specs.Times.{horizon, is-frame}
+use Rattle.rows.specs.Counting.{on-frame}
 
 -- a bound on the demand of rows
 pub record Meaning : Type 0 where
@@ -15,6 +16,10 @@ pub record Meaning : Type 0 where
   pub accuracy : ℕ
   -- no row has more corners than this up to the horizon
   pub most : ℕ
+
+-- an accuracy runs from 1 to 64
+abbrev pub is-accuracy : ℕ → Bool
+is-accuracy k = leb 1 k && leb k 64
 
 -- a bound has something to answer: the frame is one, the row stands on it, and the instant is not past the horizon
 abbrev pub asked : ℕ → Row → ℕ → Bool

@@ -4,7 +4,8 @@ use mathlib.Core.Bool.{Bool, true, false, cond, _&&_}
 use mathlib.Core.Path.{_≡_}
 use lib.Dec.{eqb, leb}
 use Rattle.rows.specs.declared.tasks.Row.{Row}
-use Rattle.rows.specs.Counting.{horizon, steps}
+use Rattle.rows.specs.Times.{horizon}
+use Rattle.rows.specs.Counting.{steps}
 use Rattle.bounds.specs.Meaning.{Meaning}
 
 -- t is b × period − jitter for some b ≥ 1: just after it the exact steps rise

@@ -2,7 +2,7 @@
 ghost use Prim.Native.Nat.{_+_, _-_};
 ghost use mathlib.Core.Bool.{cond};
 ghost use mathlib.Core.Path.{_≡_};
-ghost use Rattle.rows.specs.Counting.{horizon};
+ghost use Rattle.rows.specs.Times.{horizon};
 ghost use Rattle.bounds.specs.Instants.{least};
 ghost use Rattle.bounds.specs.Meaning.{Meaning, asked};
 ghost use Rattle.bounds.specs.Laws.{Laws};

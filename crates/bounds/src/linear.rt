@@ -1,10 +1,10 @@
 // The linear tail: a few exact steps, then a straight line on or above the steps.
 ghost use Prim.Native.Nat.{_≤_};
-ghost use mathlib.Core.Bool.{_||_};
+ghost use mathlib.Core.Bool.{not};
 ghost use mathlib.Core.List.{[], _∷_};
 ghost use mathlib.Core.Path.{_≡_};
-ghost use lib.Dec.{eqb, ltb};
 ghost use Rattle.rows.specs.Answers.{answer, check, checked};
+ghost use Rattle.bounds.specs.Meaning.{is-accuracy};
 ghost use Rattle.bounds.specs.Supplied.{linear-tail, before-tail, Rising};
 use crate::interface::Bound;
 use crate::interface::asked;
@@ -25,7 +25,7 @@ pub struct LinearTail {
 impl LinearTail {
     // The linear tail of accuracy k; refused with bad accuracy outside 1 to 64.
     pub fn new(accuracy: u32) -> Result<LinearTail, Fault>
-        ensures made { λ r. ⌜ answer (λ tail. tail .accuracy) r ≡ checked (check (eqb accuracy 0 || ltb 64 accuracy) 3 0 ∷ []) accuracy ⌝ }
+        ensures made { λ r. ⌜ answer (λ tail. tail .accuracy) r ≡ checked (check (not (is-accuracy accuracy)) 3 0 ∷ []) accuracy ⌝ }
         ensures rising { λ _. ⌜ Rising ⌝ }
     {
         if accuracy == 0 || accuracy > 64 {

@@ -1,6 +1,6 @@
 // The instants at which exact steps rise.
 ghost use Prim.Native.Nat.{_+_, _≤_};
-ghost use Rattle.rows.specs.Counting.{horizon};
+ghost use Rattle.rows.specs.Times.{horizon};
 ghost use Rattle.bounds.specs.Instants.{First};
 ghost use Rattle.bounds.specs.Supplied.{rises};
 use rows::Row;

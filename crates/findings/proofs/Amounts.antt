@@ -12,7 +12,8 @@ use Rattle.std.proofs.shelf.Elements.{all-getD, all-weaker}
 use Rattle.std.proofs.shelf.Sums.{sumBy-cons, sumBy-le, sumBy-more, sumBy-take-le}
 use Rattle.std.proofs.shelf.Tests.{and-from, and-parts, cases-lt, cond-true, le-leb, leb-true, leb-false, lt-leb, or-parts}
 use Rattle.rows.specs.declared.tasks.Row.{Row}
-use Rattle.rows.specs.Counting.{horizon, is-frame, on-frame, steps}
+use Rattle.rows.specs.Times.{horizon, is-frame}
+use Rattle.rows.specs.Counting.{on-frame, steps}
 use Rattle.bounds.specs.Laws.{Laws}
 use Rattle.bounds.specs.Meaning.{Meaning, asked}
 use Rattle.bounds.proofs.Asking.{most-parts, steps-fit}

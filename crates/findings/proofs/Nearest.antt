@@ -13,7 +13,7 @@ use Rattle.std.specs.declared.option.Option.the-variants.{Some, None}
 use Rattle.std.proofs.shelf.Lists.{take-more}
 use Rattle.std.proofs.shelf.Tests.{and-from, and-right, cases-lt, cond-true, lt-ltb, or-from, or-left, or-right}
 use Rattle.rows.specs.declared.tasks.Row.{Row}
-use Rattle.rows.specs.Counting.{horizon}
+use Rattle.rows.specs.Times.{horizon}
 use Rattle.bounds.specs.Instants.{least, First}
 use Rattle.bounds.specs.Meaning.{Meaning, asked}
 use Rattle.bounds.proofs.Instants.{least-after}

@@ -9,7 +9,7 @@ use Rattle.std.specs.Options.{valueOr}
 use Rattle.std.specs.declared.option.Option.{Option}
 use Rattle.std.specs.declared.option.Option.the-variants.{Some, None}
 use Rattle.std.proofs.shelf.Tests.{and-from, and-left, and-right, both-ways, cases-lt, lt-ltb, or-parts, and-cases, true≢false}
-use Rattle.rows.specs.Counting.{horizon}
+use Rattle.rows.specs.Times.{horizon}
 use Rattle.bounds.specs.Instants.{least, count, First}
 use Rattle.bounds.specs.Laws.{Laws}
 use Rattle.bounds.proofs.Instants.{least-some, least-none, count-first}

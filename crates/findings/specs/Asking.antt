@@ -7,7 +7,8 @@ use lib.ListN.{length}
 use Rattle.std.specs.shelf.Lists.{leading}
 use Rattle.rows.specs.declared.tasks.Row.{Row}
 use Rattle.rows.specs.Answers.{Check, check}
-use Rattle.rows.specs.Counting.{is-frame, on-frame}
+use Rattle.rows.specs.Times.{is-frame}
+use Rattle.rows.specs.Counting.{on-frame}
 
 -- a table has at most 32 rows, so at most 31 stand above one
 abbrev pub most-above : ℕ

@@ -6,7 +6,8 @@ use mathlib.Core.Path.{_≡_}
 use lib.ListN.{length}
 use Rattle.std.specs.shelf.Lists.{All}
 use Rattle.rows.specs.declared.tasks.Row.{Row}
-use Rattle.rows.specs.Counting.{is-frame, on-frame}
+use Rattle.rows.specs.Times.{is-frame}
+use Rattle.rows.specs.Counting.{on-frame}
 use Rattle.findings.specs.Asking.{most-above}
 
 -- the frame is one, and at most 31 rows are above, all of which stand on it

@@ -2,7 +2,7 @@
 ghost use Prim.Native.Nat.{_<_, _≤_};
 ghost use mathlib.Core.Bool.{true};
 ghost use mathlib.Core.Path.{_≡_};
-ghost use Rattle.rows.specs.Counting.{horizon};
+ghost use Rattle.rows.specs.Times.{horizon};
 ghost use Rattle.bounds.specs.Instants.{First};
 ghost use Rattle.findings.specs.Demand.{load, rests};
 ghost use Rattle.findings.specs.Findings.{tells, finding, Says};

@@ -5,7 +5,9 @@ use mathlib.Core.Logic.{⊎-elim}
 use native.Mathlib.Omega.{arith}
 use Rattle.std.proofs.shelf.Bits.{div-mul-add, div-add-mod', mod-below}
 use Rattle.std.proofs.shelf.Tests.{cases-lt}
-use Rattle.rows.specs.Counting.{ceiling}
+use Rattle.rows.specs.declared.tasks.Row.{Row}
+use Rattle.rows.specs.Times.{ceiling}
+use Rattle.rows.specs.Counting.{steps, Jobs}
 
 -- q b's cover a, and one fewer do not
 pub ceiling-is : (a b q : ℕ) → 0 < b → a ≤ q * b → q * b < a + b → ceiling a b ≡ q
@@ -28,3 +30,12 @@ ceiling-by-quotient a b some =
     ⊎-elim (λ none. let e : min 1 (a % b) ≡ 0 = omega arith in rw e (sym (ceiling-is a b (a / b + 0) some (omega arith) (omega arith))))
     (λ more. let e : min 1 (a % b) ≡ 1 = omega arith in rw e (sym (ceiling-is a b (a / b + 1) some (omega arith) (omega arith))))
     (cases-lt (a % b) 1)
+
+-- the steps of a row are the work of as many jobs as it takes periods to cover the time
+pub steps-jobs : (r : Row) (t s : ℕ) → s ≡ steps r t → Jobs r t s
+steps-jobs r t s same = record {
+  jobs = ceiling (t + r .jitter) (r .period);
+  work = same;
+  cover = ceiling-covers (t + r .jitter) (r .period) (omega arith);
+  tight = ceiling-tight (t + r .jitter) (r .period) (omega arith);
+}

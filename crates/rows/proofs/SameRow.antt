@@ -6,6 +6,7 @@ use mathlib.Core.HLevel.{isProp→PathP}
 use native.Mathlib.Omega.{arith}
 use native.Mathlib.Bridge.{le-prop}
 use Rattle.rows.specs.declared.tasks.Row.{Row}
+use Rattle.rows.specs.Times.{horizon}
 use Rattle.rows.specs.Judging.{plain}
 
 -- rows with the same numbers are the same row
@@ -19,7 +20,7 @@ same-row r s same =
       busy = isProp→PathP (λ j. 1 ≤ same j .work) (λ j. le-prop) (r .busy) (s .busy) i;
       roomy = isProp→PathP (λ j. same j .work + same j .jitter ≤ same j .deadline) (λ j. le-prop) (r .roomy) (s .roomy) i;
       timely = isProp→PathP (λ j. same j .deadline ≤ same j .period) (λ j. le-prop) (r .timely) (s .timely) i;
-      near = isProp→PathP (λ j. same j .period ≤ 16777216) (λ j. le-prop) (r .near) (s .near) i;
+      near = isProp→PathP (λ j. same j .period ≤ horizon) (λ j. le-prop) (r .near) (s .near) i;
     }
 
 -- and so it is with lists of rows

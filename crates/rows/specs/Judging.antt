@@ -5,7 +5,7 @@ use lib.Dec.{eqb, ltb}
 use Rattle.rows.specs.declared.tasks.Numbers.{Numbers}
 use Rattle.rows.specs.declared.tasks.Row.{Row}
 use Rattle.rows.specs.Answers.{Check, check}
-use Rattle.rows.specs.Counting.{horizon}
+use Rattle.rows.specs.Times.{horizon}
 
 -- the four numbers of a row
 abbrev pub plain : Row → Numbers

@@ -1,5 +1,6 @@
 pub mod Refusals
 pub mod Shown
 pub mod Answers
+pub mod Times
 pub mod Counting
 pub mod Judging

@@ -1,7 +1,8 @@
 // Times, frames, and the exact count of a row's demand.
 ghost use mathlib.Core.Path.{_≡_};
 ghost use Rattle.rows.specs.Judging.{plain};
-ghost use Rattle.rows.specs.Counting.{is-frame, on-frame, window, steps};
+ghost use Rattle.rows.specs.Times.{is-frame};
+ghost use Rattle.rows.specs.Counting.{on-frame, window, steps, Jobs};
 use crate::tasks::Numbers;
 use crate::tasks::Row;
 
@@ -44,7 +45,8 @@ impl Row {
 
     // The exact steps at an instant: work × ceiling((at + jitter) / period).
     pub fn steps(&self, at: u32) -> u64
-        ensures { λ r. ⌜ r ≡ steps (now (self .entry)) at ⌝ }
+        ensures value { λ r. ⌜ r ≡ steps (now (self .entry)) at ⌝ }
+        ensures jobs { λ r. ⌜ Jobs (now (self .entry)) at r ⌝ }
     {
         let jobs = (u64::from(at) + u64::from(self.jitter)).div_ceil(u64::from(self.period));
         u64::from(self.work) * jobs

@@ -1,5 +1,6 @@
 // A task as four plain numbers, and as a row that passed judgement.
 ghost use Prim.Native.Nat.{_+_, _≤_};
+ghost use Rattle.rows.specs.Times.{horizon};
 
 // Four plain numbers that nobody has judged: work, deadline, period and jitter of a task to be.
 #[derive(Clone, Copy, PartialEq, Eq, Debug)]
@@ -22,5 +23,5 @@ pub struct Row {
     ghost busy: { 1 ≤ work },
     ghost roomy: { work + jitter ≤ deadline },
     ghost timely: { deadline ≤ period },
-    ghost near: { period ≤ 16777216 },
+    ghost near: { period ≤ horizon },
 }

@@ -8,4 +8,4 @@ mul-result c =
     let row = c .args .row .now in
     let ask = asked-tells (c .args .frame) row (c .args .at) (sym (c .if-asked .ensures tt)) in
     let fit = steps-fit (c .from .result) row (c .args .at) (omega arith) (ask .near) in
-    rw (c .steps .ensures) (record { fits = omega arith })
+    rw (c .steps .ensures .value) (record { fits = omega arith })

@@ -1,4 +1,4 @@
-use Rattle.rows.specs.Counting.{horizon}
+use Rattle.rows.specs.Times.{horizon}
 use native.Mathlib.Omega.{arith}
 use Rattle.bounds.specs.Supplied.{rises}
 use Rattle.bounds.proofs.Instants.{asked-some, asked-none}

@@ -10,7 +10,7 @@ mul-result c =
     let row = c .args .row .now in
     let ask = asked-tells (c .args .frame) row (c .args .at) (sym (c .if-not-asked .ensures tt)) in
     let fit = steps-fit (c .from-frame .result) row (c .args .at) (omega arith) (ask .near) in
-    rw (c .steps .ensures) (record { fits = omega arith })
+    rw (c .steps .ensures .value) (record { fits = omega arith })
 
 -- the sum fits, and so does each part of it
 sum-fits : (c : need.After-from) → c .from-frame .result * c .from-work .result + c .from-ready .result * (c .from-work .result * (c .from-frame .result / c .from .result)) ≤ most-parts

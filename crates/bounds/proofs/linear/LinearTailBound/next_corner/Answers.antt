@@ -3,7 +3,7 @@ use mathlib.Core.Bool.{false}
 use mathlib.Core.Path.{_≡_}
 use native.Mathlib.Omega.{arith}
 use Rattle.std.proofs.shelf.Tests.{and-left}
-use Rattle.rows.specs.Counting.{horizon}
+use Rattle.rows.specs.Times.{horizon}
 use Rattle.bounds.specs.Supplied.{rises, before-tail, linear-tail}
 use Rattle.bounds.proofs.Corners.{first-corner, no-corner}
 use Rattle.bounds.proofs.Instants.{asked-some, asked-none}
