@@ -7,7 +7,7 @@ use rows::HORIZON;
 use rows::Row;
 
 // The count in exact steps: no amount is rounded, and every step is a corner.
-#[derive(Clone, Copy)]
+#[derive(Clone, Copy, PartialEq, Eq, Debug)]
 pub struct ExactSteps;
 
 pub impl Bound for ExactSteps as ExactStepsBound {

@@ -15,7 +15,7 @@ use rows::Refusal;
 use rows::Row;
 
 // The linear tail of an accuracy from 1 to 64: the larger, the closer to the steps.
-#[derive(Clone, Copy)]
+#[derive(Clone, Copy, PartialEq, Eq, Debug)]
 pub struct LinearTail {
     accuracy: u32,
     ghost low: { 1 ≤ accuracy },

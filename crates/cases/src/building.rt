@@ -4,7 +4,7 @@ use rows::Numbers;
 use rows::Row;
 
 // Four plain numbers: work, deadline, period and jitter.
-pub fn numbers(work: u32, deadline: u32, period: u32, jitter: u32) -> Numbers {
+pub(crate) fn numbers(work: u32, deadline: u32, period: u32, jitter: u32) -> Numbers {
     Numbers {
         work,
         deadline,
@@ -14,6 +14,6 @@ pub fn numbers(work: u32, deadline: u32, period: u32, jitter: u32) -> Numbers {
 }
 
 // The row of four numbers.
-pub fn row(work: u32, deadline: u32, period: u32, jitter: u32) -> Result<Row, Fault> {
+pub(crate) fn row(work: u32, deadline: u32, period: u32, jitter: u32) -> Result<Row, Fault> {
     numbers(work, deadline, period, jitter).judge(0)
 }

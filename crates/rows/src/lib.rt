@@ -21,3 +21,6 @@ pub use tasks::NumbersDebug;
 pub use tasks::NumbersEq;
 pub use tasks::NumbersPartialEq;
 pub use tasks::Row;
+pub use tasks::RowDebug;
+pub use tasks::RowEq;
+pub use tasks::RowPartialEq;

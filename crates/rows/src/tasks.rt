@@ -14,7 +14,7 @@ pub struct Numbers {
 // A row of a table: a sporadic task that passed judgement. Its work is its worst-case execution
 // time, its deadline is counted from release, its period is the least gap between two releases,
 // and its jitter the longest wait from release to readiness. Rank 1 is the highest priority.
-#[derive(Clone, Copy)]
+#[derive(Clone, Copy, PartialEq, Eq, Debug)]
 pub struct Row {
     pub work: u32,
     pub deadline: u32,

@@ -14,7 +14,7 @@ use std::error::AnyError;
 const NAMES: [&str; 3] = ["A", "B", "E"];
 
 // The rows by rank, with their four numbers and their windows.
-pub fn print_rows(rt: &LibcRuntime, rows: &[Row; 3]) -> Result<(), AnyError> {
+pub(crate) fn print_rows(rt: &LibcRuntime, rows: &[Row; 3]) -> Result<(), AnyError> {
     println!(rt, "frame {FRAME}")?;
     println!(rt, "rank  task  work  deadline  period  jitter  window")?;
     for (i, row) in rows.iter().enumerate() {
@@ -31,7 +31,7 @@ pub fn print_rows(rt: &LibcRuntime, rows: &[Row; 3]) -> Result<(), AnyError> {
 }
 
 // What is found about each row by a bound.
-pub fn print_count<B: Bound>(
+pub(crate) fn print_count<B: Bound>(
     rt: &LibcRuntime,
     title: &str,
     bound: &B,
@@ -63,7 +63,7 @@ pub fn print_count<B: Bound>(
 }
 
 // The response time of each row, in exact steps, beside its deadline.
-pub fn print_response_times(rt: &LibcRuntime, rows: &[Row; 3]) -> Result<(), AnyError> {
+pub(crate) fn print_response_times(rt: &LibcRuntime, rows: &[Row; 3]) -> Result<(), AnyError> {
     println!(rt, "")?;
     println!(rt, "response times")?;
     println!(rt, "rank  task  response  deadline")?;
