@@ -1,5 +1,5 @@
--- The demand of a sound load: how large it is, and where it does not bend upward.
-use Prim.Native.Nat.{ℕ, zero, suc, _+_, _-_, _*_, _^_, _<_, _≤_}
+-- The demand of rows that fit a frame: how large it is, and where it does not bend upward.
+use Prim.Native.Nat.{ℕ, suc, _+_, _-_, _*_, _^_, _<_, _≤_}
 use mathlib.Core.Bool.{true, false, cond}
 use mathlib.Core.List.{List, [], _∷_}
 use mathlib.Core.Path.{_≡_, sym, ap, subst, _∙_}
@@ -26,9 +26,11 @@ use Rattle.findings.proofs.Turning.{on-from}
 abbrev largest : ℕ
 largest = 2 * most-parts
 
+-- a row on the frame, at an instant up to the horizon, is one that a bound is asked about
 pub is-asked : (h : ℕ) (r : Row) (t : ℕ) → is-frame h ≡ true → on-frame h r ≡ true → t ≤ horizon → asked h r t ≡ true
 is-asked h r t frame on near = and-from _ _ (and-from _ _ frame on) (le-leb t horizon near)
 
+-- a frame runs from 1 to the horizon
 pub frame-low : (h : ℕ) → is-frame h ≡ true → 1 ≤ h
 frame-low h frame = leb-true 1 h (and-parts _ _ frame .0)
 
@@ -43,15 +45,18 @@ at-most-twice k f x some close small =
     (cases-lt (2 * x) f)
 
 module _ {m : Meaning} (laws : Laws m) where
+  -- no amount is larger than twice what the exact steps can have
   amount-small : (h : ℕ) (r : Row) (t : ℕ) → is-frame h ≡ true → on-frame h r ≡ true → t ≤ horizon → m .amount h r t ≤ largest
   amount-small h r t frame on near =
       at-most-twice (m .accuracy) (m .amount h r t) (h * steps r t) (laws .some-accuracy) (laws .close h r t (is-asked h r t frame on near))
       (steps-fit h r t (frame-high h frame) near)
 
+  -- nor is any of a sum of them
   sum-small : (h : ℕ) (rs : List Row) (t : ℕ) → is-frame h ≡ true → All (λ r. on-frame h r ≡ true) rs → t ≤ horizon → sumBy (λ r. m .amount h r t) rs ≤ length rs * largest
   sum-small h rs t frame on near =
       sumBy-le (λ r. m .amount h r t) largest rs (all-weaker (λ r. on-frame h r ≡ true) (λ r. m .amount h r t ≤ largest) (λ r o. amount-small h r t frame o near) rs on)
 
+  -- a sum does not bend upward where none of its amounts has a corner
   sum-bends : (h : ℕ) (rs : List Row) (t : ℕ) → is-frame h ≡ true → All (λ r. on-frame h r ≡ true) rs → suc t < horizon → any (λ r. m .corner r (suc t)) rs ≡ false
       → sumBy (λ r. m .amount h r t) rs + sumBy (λ r. m .amount h r (suc (suc t))) rs ≤ 2 * sumBy (λ r. m .amount h r (suc t)) rs
   sum-bends h [] t frame on near none = omega arith

@@ -1,5 +1,5 @@
 -- The first test point over the rows seen so far, one row more at a time.
-use Prim.Native.Nat.{ℕ, suc, _+_, _-_, _<_, _≤_, min}
+use Prim.Native.Nat.{ℕ, _+_, _-_, _<_, _≤_, min}
 use mathlib.Core.Bool.{Bool, true, false, cond, _&&_, _||_, or-assoc, or-comm}
 use mathlib.Core.List.{List, [], _∷_, _++_}
 use mathlib.Core.Path.{_≡_, refl, sym, ap, subst, _∙_}
@@ -34,6 +34,7 @@ first-like p q s e t first here none = record {
 }
 
 module _ (m : Meaning) (h last : ℕ) (rs : List Row) (i : ℕ) (r : Row) (within : i < length rs) (read : r ≡ getD rs i r) where
+  -- the test points with the rows seen so far, and with one more
   abbrev seen : ℕ → Bool
   seen = test-point m (take i rs) last
 

@@ -1,16 +1,15 @@
 -- From test point to test point: what is known on the way, and what is found at the end.
-use Prim.Native.Nat.{ℕ, zero, suc, _+_, _-_, _*_, _<_, _≤_}
-use mathlib.Core.Bool.{Bool, true, false, _&&_, _||_}
+use Prim.Native.Nat.{ℕ, _+_, _<_, _≤_}
+use mathlib.Core.Bool.{true, false, _&&_}
 use mathlib.Core.Path.{_≡_, refl, sym, ap, subst, _∙_}
 use mathlib.Core.Logic.{⊎-elim}
 use native.Mathlib.Omega.{arith}
 use lib.Dec.{eqb, ltb}
 use Rattle.std.specs.Options.{valueOr}
-use Rattle.std.specs.declared.option.Option.{Option}
 use Rattle.std.specs.declared.option.Option.the-variants.{Some, None}
-use Rattle.std.proofs.shelf.Tests.{and-from, and-left, and-right, both-ways, cases-lt, lt-ltb, or-parts, and-cases, true≢false}
+use Rattle.std.proofs.shelf.Tests.{and-from, and-left, and-right, both-ways, cases-lt, lt-ltb, or-parts, and-cases}
 use Rattle.rows.specs.Times.{horizon}
-use Rattle.bounds.specs.Instants.{least, count, First}
+use Rattle.bounds.specs.Instants.{count, First}
 use Rattle.bounds.specs.Laws.{Laws}
 use Rattle.bounds.proofs.Instants.{least-some, least-none, count-first}
 use Rattle.findings.specs.Demand.{Load, rests}
@@ -41,6 +40,14 @@ start l last laws fit busy = record {
   counted = refl;
 }
 
+-- what holds of the instants up to b and of those after it holds of all
+up-to-and-after : {P : Type 0} (b i : ℕ) → (i ≤ b → P) → (b < i → P) → P
+up-to-and-after b i old new = ⊎-elim new old (cases-lt b i)
+
+-- the next test point is one point more
+one-point-more : (l : Load) (last before seen point : ℕ) → Passed l last before seen → First (tested l last) before last point → seen + 1 ≡ count (tested l last) point
+one-point-more l last before seen point passed next = ap (λ n. n + 1) (passed .counted) ∙ sym (count-first (tested l last) before last point next)
+
 module _ (l : Load) (last : ℕ) (laws : Laws (l .bound)) (fit : Fit (l .frame) (l .above)) (near : last ≤ horizon) where
   -- between the instant passed and the next test point a row that rests goes on resting
   pub turns-once : (before seen point : ℕ) → Passed l last before seen → First (tested l last) before last point → Once-then-on (rests l) before point
@@ -50,57 +57,58 @@ module _ (l : Load) (last : ℕ) (laws : Laws (l .bound)) (fit : Fit (l .frame) 
 
   -- a test point at which the row does not rest is passed
   pub pass : (before seen point : ℕ) → Passed l last before seen → First (tested l last) before last point → rests l point ≡ false → Passed l last point (seen + 1)
-  pass before seen point passed next late = record {
-    within = next .within;
-    none = λ i low. ⊎-elim (λ (new : before < i). not-before (rests l) before point point (turns-once before seen point passed next) (omega arith) late i new low) (λ (old : i ≤ before). passed .none i old) (cases-lt before i);
-    counted = ap (λ n. n + 1) (passed .counted) ∙ sym (count-first (tested l last) before last point next);
+  pass before seen point passed next late =
+      let once = turns-once before seen point passed next in
+      record {
+        within = next .within;
+        none = λ i low. up-to-and-after before i (passed .none i) (λ new. not-before (rests l) before point point once (omega arith) late i new low);
+        counted = one-point-more l last before seen point passed next;
+      }
+
+-- a test point is a rest, and the first rest after the instant passed is found
+module _ (l : Load) (last before seen point rest : ℕ) (passed : Passed l last before seen) (next : First (tested l last) before last point)
+    (served : rests l point ≡ true) (first : First (rests l) before point rest) where
+  -- the first rest after the instant passed is the first of all
+  first-of-all : First (rests l) 0 last rest
+  first-of-all = record {
+    after = omega (arith, first .after);
+    within = omega (arith, first .within, next .within);
+    holds = first .holds;
+    none = λ i low early. up-to-and-after before i (passed .none i) (λ new. first .none i new early);
   }
 
-  -- the first rest, and where testing stops, once a test point is a rest
-  module _ (before seen point rest : ℕ) (passed : Passed l last before seen) (next : First (tested l last) before last point)
-      (served : rests l point ≡ true) (first : First (rests l) before point rest) where
-    first-of-all : First (rests l) 0 last rest
-    first-of-all = record {
-      after = omega (arith, first .after);
-      within = omega (arith, first .within, next .within);
-      holds = first .holds;
-      none = λ i low early. ⊎-elim (λ (new : before < i). first .none i new early) (λ (old : i ≤ before). passed .none i old) (cases-lt before i);
-    }
+  -- testing stops at the test point
+  stops-here : First (accepts l last) 0 last point
+  stops-here = record {
+    after = omega (arith, next .after);
+    within = next .within;
+    holds = and-from (tested l last point) (rests l point) (next .holds) served;
+    none = λ i low early.
+        up-to-and-after before i (λ old. and-right (tested l last i) (rests l i) (passed .none i old)) (λ new. and-left (tested l last i) (rests l i) (next .none i new early));
+  }
 
-    stops-here : First (accepts l last) 0 last point
-    stops-here = record {
-      after = omega (arith, next .after);
-      within = next .within;
-      holds = and-from (tested l last point) (rests l point) (next .holds) served;
-      none = λ i low early. ⊎-elim (λ (new : before < i). and-left (tested l last i) (rests l i) (next .none i new early)) (λ (old : i ≤ before). and-right (tested l last i) (rests l i) (passed .none i old)) (cases-lt before i);
-    }
+  -- so the finding is the first rest with the points so far and this one
+  pub meets : record { rest = Some rest; points = seen + 1 } ≡ finding l last
+  unfolding first-rest stop points
+  meets =
+      let at-rest = least-some (rests l) last 0 last rest first-of-all (omega (arith, first-of-all .within)) in
+      let at-stop = least-some (accepts l last) last 0 last point stops-here (omega (arith, next .within)) in
+      let same = one-point-more l last before seen point passed next ∙ ap (λ o. count (tested l last) (valueOr o last)) (sym at-stop) in
+      λ i. record { rest = sym at-rest i; points = same i }
 
-    counted-here : seen + 1 ≡ count (tested l last) point
-    counted-here = ap (λ n. n + 1) (passed .counted) ∙ sym (count-first (tested l last) before last point next)
+  pub meets-says : Says l last (record { rest = Some rest; points = seen + 1 })
+  meets-says = record { rest = first-of-all; points = (point, stops-here, one-point-more l last before seen point passed next) }
 
-    pub meets : record { rest = Some rest; points = seen + 1 } ≡ finding l last
-    unfolding first-rest stop points
-    meets =
-        let at-rest = least-some (rests l) last 0 last rest first-of-all (omega (arith, first-of-all .within)) in
-        let at-stop = least-some (accepts l last) last 0 last point stops-here (omega (arith, next .within)) in
-        let same = counted-here ∙ ap (λ o. count (tested l last) (valueOr o last)) (sym at-stop) in
-        λ i. record { rest = sym at-rest i; points = same i }
+-- the last instant is passed
+module _ (l : Load) (last seen : ℕ) (passed : Passed l last last seen) where
+  -- the finding is a miss with all points
+  pub misses : record { rest = None; points = seen } ≡ finding l last
+  unfolding first-rest stop points
+  misses =
+      let at-rest = least-none (rests l) last 0 (λ i low high. passed .none i (omega arith)) in
+      let at-stop = least-none (accepts l last) last 0 (λ i low high. and-right (tested l last i) (rests l i) (passed .none i (omega arith))) in
+      let same = passed .counted ∙ ap (λ o. count (tested l last) (valueOr o last)) (sym at-stop) in
+      λ i. record { rest = sym at-rest i; points = same i }
 
-    pub meets-says : Says l last (record { rest = Some rest; points = seen + 1 })
-    meets-says = record { rest = first-of-all; points = (point, stops-here, counted-here) }
-
-  -- a row that has passed the last instant misses
-  module _ (seen : ℕ) (passed : Passed l last last seen) where
-    none-accepts : (i : ℕ) → 0 < i → i ≤ 0 + last → accepts l last i ≡ false
-    none-accepts i low high = and-right (tested l last i) (rests l i) (passed .none i (omega arith))
-
-    pub misses : record { rest = None; points = seen } ≡ finding l last
-    unfolding first-rest stop points
-    misses =
-        let at-rest = least-none (rests l) last 0 (λ i low high. passed .none i (omega arith)) in
-        let at-stop = least-none (accepts l last) last 0 none-accepts in
-        let same = passed .counted ∙ ap (λ o. count (tested l last) (valueOr o last)) (sym at-stop) in
-        λ i. record { rest = sym at-rest i; points = same i }
-
-    pub misses-says : Says l last (record { rest = None; points = seen })
-    misses-says = record { rest = λ t low high. passed .none t high; points = passed .counted }
+  pub misses-says : Says l last (record { rest = None; points = seen })
+  misses-says = record { rest = λ t low high. passed .none t high; points = passed .counted }

@@ -1,5 +1,5 @@
 // The three rows of the worked table.
-ghost use mathlib.Core.List.{[], _∷_, map};
+ghost use mathlib.Core.List.{[], _∷_};
 ghost use mathlib.Core.Path.{_≡_};
 ghost use Rattle.worked.specs.Table.{Worked, row-a, row-b, row-e};
 use rows::Row;

@@ -1,9 +1,7 @@
-use Prim.Native.Nat.{ℕ, _+_, _<_, _≤_}
 use mathlib.Core.Path.{_≡_, sym, subst}
 use native.Mathlib.Omega.{arith}
-use Rattle.bounds.specs.Instants.{count}
 use Rattle.bounds.proofs.Instants.{count-le}
-use Rattle.findings.specs.Demand.{Load, load}
+use Rattle.findings.specs.Demand.{load}
 use Rattle.findings.specs.Findings.{tested}
 use Rattle.findings.proofs.Walk.{Passed, start, turns-once, pass, meets, meets-says, misses, misses-says}
 use Rattle.findings.proofs.searching.search.Needs as need
@@ -27,11 +25,10 @@ bisect-rest-requires g c κs = record {
 
 pub returns-then-is-rest : need.returns-then-is-rest
 returns-then-is-rest g c =
-    let laws = g .B·Bound·met .lawful (c .args .bound .now) in
     let served = sym (c .if-is-rest .ensures tt) in
     record {
-      found = meets _ _ laws (c .pre .fit) (c .pre .near) _ _ _ _ (c .loop-before .inv) (c .next-point-point .ensures) served (c .bisect-rest .ensures);
-      says = meets-says _ _ laws (c .pre .fit) (c .pre .near) _ _ _ _ (c .loop-before .inv) (c .next-point-point .ensures) served (c .bisect-rest .ensures);
+      found = meets _ _ _ _ _ _ (c .loop-before .inv) (c .next-point-point .ensures) served (c .bisect-rest .ensures);
+      says = meets-says _ _ _ _ _ _ (c .loop-before .inv) (c .next-point-point .ensures) served (c .bisect-rest .ensures);
     }
 
 pub loop-before-again : need.loop-before-again
@@ -40,11 +37,7 @@ loop-before-again g c =
 
 pub returns : need.returns
 returns g c =
-    let laws = g .B·Bound·met .lawful (c .args .bound .now) in
     let l = load (g .B·Bound .meaning (c .args .bound .now)) (c .args .frame) (c .args .own) (c .args .above .now) in
     let e : c .loop-before .before ≡ c .args .last = omega (arith, c .loop-before .inv .within) in
     let passed = subst (λ t. Passed l (c .args .last) t (c .loop-before .points)) e (c .loop-before .inv) in
-    record {
-      found = misses _ _ laws (c .pre .fit) (c .pre .near) _ passed;
-      says = misses-says _ _ laws (c .pre .fit) (c .pre .near) _ passed;
-    }
+    record { found = misses _ _ _ passed; says = misses-says _ _ _ passed }
