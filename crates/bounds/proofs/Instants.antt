@@ -53,6 +53,12 @@ module _ (p : ℕ → Bool) where
       read None none = λ i low high. none i (omega arith) (omega arith)
       read (Some t) f = record { after = omega arith; within = omega arith; holds = f .2; none = λ i low high. f .3 i (omega arith) high }
 
+  -- what it tells of the instants from 1 to n
+  pub least-up-to : (n : ℕ) → Cases (least p n 1) ((i : ℕ) → 1 ≤ i → i ≤ n → p i ≡ false) (First p 0 n)
+  least-up-to n =
+      let all : 0 + n ≡ n = omega arith in
+      subst (λ e. Cases (least p n 1) ((i : ℕ) → 1 ≤ i → i ≤ e → p i ≡ false) (First p 0 e)) all (least-after n 0)
+
   pub least-some : (n s e t : ℕ) → First p s e t → t ≤ s + n → least p n (s + 1) ≡ Some t
   least-some n s e t first within = read (least p n (s + 1)) (least-after n s)
     where

@@ -4,3 +4,4 @@ pub mod Nearest
 pub mod Standing
 pub mod Walk
 pub mod FixedPoint
+pub mod Tables

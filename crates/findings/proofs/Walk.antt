@@ -1,17 +1,18 @@
 -- From test point to test point: what is known on the way, and what is found at the end.
-use Prim.Native.Nat.{ℕ, _+_, _<_, _≤_}
+use Prim.Native.Nat.{ℕ, zero, suc, _+_, _-_, _<_, _≤_}
 use mathlib.Core.Bool.{true, false, _&&_}
 use mathlib.Core.Path.{_≡_, refl, sym, ap, subst, _∙_}
 use mathlib.Core.Logic.{⊎-elim}
 use native.Mathlib.Omega.{arith}
 use lib.Dec.{eqb, ltb}
-use Rattle.std.specs.Options.{valueOr}
+use Rattle.std.specs.Options.{Cases, valueOr}
+use Rattle.std.specs.declared.option.Option.{Option}
 use Rattle.std.specs.declared.option.Option.the-variants.{Some, None}
-use Rattle.std.proofs.shelf.Tests.{and-from, and-left, and-right, both-ways, cases-lt, lt-ltb, or-parts, and-cases}
+use Rattle.std.proofs.shelf.Tests.{and-from, and-left, and-parts, and-right, both-ways, cases-lt, eq-eqb, lt-ltb, or-left, or-parts, and-cases}
 use Rattle.rows.specs.Times.{horizon}
-use Rattle.bounds.specs.Instants.{count, First}
+use Rattle.bounds.specs.Instants.{least, count, First}
 use Rattle.bounds.specs.Laws.{Laws}
-use Rattle.bounds.proofs.Instants.{least-some, least-none, count-first}
+use Rattle.bounds.proofs.Instants.{least-after, least-some, least-none, least-up-to, count-first}
 use Rattle.findings.specs.Demand.{Load, rests}
 use Rattle.findings.specs.Points.{bend}
 use Rattle.findings.specs.Findings.{first-rest, tested, accepts, stop, points, finding, Says}
@@ -96,9 +97,6 @@ module _ (l : Load) (last before seen point rest : ℕ) (passed : Passed l last 
       let same = one-point-more l last before seen point passed next ∙ ap (λ o. count (tested l last) (valueOr o last)) (sym at-stop) in
       λ i. record { rest = sym at-rest i; points = same i }
 
-  pub meets-says : Says l last (record { rest = Some rest; points = seen + 1 })
-  meets-says = record { rest = first-of-all; points = (point, stops-here, one-point-more l last before seen point passed next) }
-
 -- the last instant is passed
 module _ (l : Load) (last seen : ℕ) (passed : Passed l last last seen) where
   -- the finding is a miss with all points
@@ -110,5 +108,33 @@ module _ (l : Load) (last seen : ℕ) (passed : Passed l last last seen) where
       let same = passed .counted ∙ ap (λ o. count (tested l last) (valueOr o last)) (sym at-stop) in
       λ i. record { rest = sym at-rest i; points = same i }
 
-  pub misses-says : Says l last (record { rest = None; points = seen })
-  misses-says = record { rest = λ t low high. passed .none t high; points = passed .counted }
+-- what a finding says holds of the finding that is defined
+module _ (l : Load) (last : ℕ) (laws : Laws (l .bound)) (fit : Fit (l .frame) (l .above)) (busy : 1 ≤ l .own) (near : last ≤ horizon) where
+  -- after every instant before the last there is a next test point
+  next-test : (n : ℕ) → n < last → (q : ℕ) × First (tested l last) n last q
+  next-test n before = at (least (tested l last) (last - n) (n + 1)) (least-after (tested l last) (last - n) n)
+    where
+      at : (o : Option ℕ) → Cases o ((i : ℕ) → n < i → i ≤ n + (last - n) → tested l last i ≡ false) (First (tested l last) n (n + (last - n))) → (q : ℕ) × First (tested l last) n last q
+      at None none = absurd (both-ways (tested l last last) (none last before (omega arith)) (or-left (eqb last last) _ (eq-eqb last last refl)))
+      at (Some q) first = let e : n + (last - n) ≡ last = omega arith in (q, subst (λ e. First (tested l last) n e q) e first)
+
+  -- where no test point is a rest, no instant is
+  no-rest : ((i : ℕ) → 1 ≤ i → i ≤ last → accepts l last i ≡ false) → (n : ℕ) → n ≤ last → (i : ℕ) → i ≤ n → rests l i ≡ false
+  no-rest none zero within i low = start l last laws fit busy .none i low
+  no-rest none (suc n) within i low =
+      let (q, next) = next-test n within in
+      let late : rests l q ≡ false = ⊎-elim (λ (z : tested l last q ≡ false). absurd (both-ways (tested l last q) z (next .holds))) (λ e. e)
+      (and-cases (tested l last q) (rests l q) (none q (omega (arith, next .after)) (next .within))) in
+      let passed : Passed l last n (count (tested l last) n) = record { within = omega arith; none = no-rest none n (omega arith); counted = refl } in
+      pass l last laws fit near n _ q passed next late .none i (omega (arith, next .after))
+
+  pub finding-says : Says l last (finding l last)
+  unfolding first-rest stop points
+  finding-says = at (least (accepts l last) last 1) (least (rests l) last 1) (least-up-to (accepts l last) last) (least-up-to (rests l) last)
+    where
+      at : (s t : Option ℕ) → Cases s ((i : ℕ) → 1 ≤ i → i ≤ last → accepts l last i ≡ false) (First (accepts l last) 0 last)
+          → Cases t ((i : ℕ) → 1 ≤ i → i ≤ last → rests l i ≡ false) (First (rests l) 0 last) → Says l last (record { rest = t; points = count (tested l last) (valueOr s last) })
+      at None None _ none = record { rest = none; points = refl }
+      at None (Some t) none first = absurd (both-ways (rests l t) (no-rest none last (omega arith) t (first .within)) (first .holds))
+      at (Some s) None first none = absurd (both-ways (rests l s) (none s (first .after) (first .within)) (and-parts (tested l last s) (rests l s) (first .holds) .1))
+      at (Some s) (Some t) stops first = record { rest = first; points = (s, stops, refl) }

@@ -1,5 +1,5 @@
 -- When a question about a row below others is refused.
-use Prim.Native.Nat.{ℕ, _+_}
+use Prim.Native.Nat.{ℕ, _+_, _-_}
 use mathlib.Core.Bool.{not}
 use mathlib.Core.List.{List, [], _∷_}
 use lib.Dec.{ltb}
@@ -7,12 +7,12 @@ use lib.ListN.{length}
 use Rattle.std.specs.shelf.Lists.{leading}
 use Rattle.rows.specs.declared.tasks.Row.{Row}
 use Rattle.rows.specs.Answers.{Check, check}
-use Rattle.rows.specs.Times.{is-frame}
+use Rattle.rows.specs.Times.{is-frame, most-rows}
 use Rattle.rows.specs.Counting.{on-frame}
 
--- a table has at most 32 rows, so at most 31 stand above one
+-- one row of a table less: at most so many stand above another
 abbrev pub most-above : ℕ
-most-above = 31
+most-above = most-rows - 1
 
 -- how many rows from the top stand on the frame
 abbrev pub standing : ℕ → List Row → ℕ
@@ -26,4 +26,14 @@ checks h r above =
     ∷ check (ltb most-above (length above)) 9 0
     ∷ check (ltb (standing h above) (length above)) 8 (standing h above + 1)
     ∷ check (not (on-frame h r)) 8 (length above + 1)
+    ∷ []
+
+-- what is checked before the findings of a table are put into a list of so many places, in order:
+-- bad frame; full table; short list; off frame with the smallest rank concerned
+abbrev pub table-checks : ℕ → List Row → ℕ → List Check
+table-checks h rows places =
+    check (not (is-frame h)) 1 0
+    ∷ check (ltb most-rows (length rows)) 9 0
+    ∷ check (ltb places (length rows)) 12 0
+    ∷ check (ltb (standing h rows) (length rows)) 8 (standing h rows + 1)
     ∷ []

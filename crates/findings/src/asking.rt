@@ -15,15 +15,16 @@ use bounds::Bound;
 use bounds::ExactSteps;
 use bounds::ExactStepsBound;
 use rows::Fault;
+use rows::MOST_ROWS;
 use rows::Refusal;
 use rows::Row;
 use rows::is_frame;
 
-// A table has at most 32 rows, so at most 31 stand above one.
-const MOST_ABOVE: usize = 31;
+// One row of a table less: at most so many stand above another.
+const MOST_ABOVE: usize = MOST_ROWS - 1;
 
 // How many rows from the top stand on the frame.
-fn standing(frame: u32, rows: &[Row]) -> usize
+pub(crate) fn standing(frame: u32, rows: &[Row]) -> usize
     ensures { λ r. ⌜ r ≡ standing frame (now (rows .entry)) ⌝ }
 {
     for (i, row) in rows.iter().enumerate() {

@@ -1,13 +1,16 @@
 -- A row is known by its four numbers.
 use Prim.Native.Nat.{ℕ, _+_, _≤_}
 use mathlib.Core.List.{List, [], _∷_, map}
-use mathlib.Core.Path.{_≡_, refl, ap₂}
+use mathlib.Core.Path.{_≡_, refl, sym, ap, ap₂, _∙_}
 use mathlib.Core.HLevel.{isProp→PathP}
+use mathlib.Core.Logic.{dif-pos}
+use native.Mathlib.Decide.{decLe}
 use native.Mathlib.Omega.{arith}
 use native.Mathlib.Bridge.{le-prop}
 use Rattle.rows.specs.declared.tasks.Row.{Row}
 use Rattle.rows.specs.Times.{horizon}
-use Rattle.rows.specs.Judging.{plain}
+use Rattle.std.specs.declared.option.Option.the-variants.{Some}
+use Rattle.rows.specs.Judging.{plain, row-of, kept, rows-of}
 
 -- rows with the same numbers are the same row
 pub same-row : (r s : Row) → plain r ≡ plain s → r ≡ s
@@ -32,3 +35,17 @@ same-rows (r ∷ rs) (s ∷ ss) same =
     let first : plain r ≡ plain s = cc in
     let rest : map plain rs ≡ map plain ss = cc in
     ap₂ _∷_ (same-row r s first) (same-rows rs ss rest)
+
+-- the row of a row's numbers is that row
+pub row-of-plain : (r : Row) → row-of (plain r) ≡ Some r
+unfolding row-of
+row-of-plain r =
+    dif-pos (decLe 1 (r .work)) le-prop (r .busy) _ _
+    ∙ dif-pos (decLe (r .work + r .jitter) (r .deadline)) le-prop (r .roomy) _ _
+    ∙ dif-pos (decLe (r .deadline) (r .period)) le-prop (r .timely) _ _
+    ∙ dif-pos (decLe (r .period) horizon) le-prop (r .near) _ _
+
+-- and so it is with lists of rows
+pub rows-of-plain : (rs : List Row) → rows-of (map plain rs) ≡ rs
+rows-of-plain [] = refl
+rows-of-plain (r ∷ rs) = ap₂ kept (row-of-plain r) (rows-of-plain rs)

@@ -7,6 +7,10 @@ use lib.Dec.{leb}
 abbrev pub horizon : ℕ
 horizon = 16777216
 
+-- a table has at most this many rows
+abbrev pub most-rows : ℕ
+most-rows = 32
+
 -- a frame: a common multiple of the periods of a table. Amounts of demand are counted in parts,
 -- frame parts to a unit of work, so that every amount is a whole number
 abbrev pub is-frame : ℕ → Bool

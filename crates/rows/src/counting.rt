@@ -9,6 +9,9 @@ use crate::tasks::Row;
 // The last instant that anything is asked about; no period and no frame is longer.
 pub const HORIZON: u32 = 16_777_216;
 
+// A table has at most this many rows.
+pub const MOST_ROWS: usize = 32;
+
 // Whether a number is a frame: from 1 to the horizon.
 pub fn is_frame(frame: u32) -> bool
     ensures { λ r. ⌜ r ≡ is-frame frame ⌝ }

@@ -5,6 +5,7 @@ mod refusals;
 mod tasks;
 
 pub use counting::HORIZON;
+pub use counting::MOST_ROWS;
 pub use counting::is_frame;
 pub use refusals::Fault;
 pub use refusals::FaultDebug;

@@ -2,8 +2,8 @@ use mathlib.Core.Path.{_≡_, sym, subst}
 use native.Mathlib.Omega.{arith}
 use Rattle.bounds.proofs.Instants.{count-le}
 use Rattle.findings.specs.Demand.{load}
-use Rattle.findings.specs.Findings.{tested}
-use Rattle.findings.proofs.Walk.{Passed, start, turns-once, pass, meets, meets-says, misses, misses-says}
+use Rattle.findings.specs.Findings.{tested, Says}
+use Rattle.findings.proofs.Walk.{Passed, start, turns-once, pass, meets, misses, finding-says}
 use Rattle.findings.proofs.searching.search.Needs as need
 
 pub loop-before-holds : need.loop-before-holds
@@ -25,11 +25,8 @@ bisect-rest-requires g c κs = record {
 
 pub returns-then-is-rest : need.returns-then-is-rest
 returns-then-is-rest g c =
-    let served = sym (c .if-is-rest .ensures tt) in
-    record {
-      found = meets _ _ _ _ _ _ (c .loop-before .inv) (c .next-point-point .ensures) served (c .bisect-rest .ensures);
-      says = meets-says _ _ _ _ _ _ (c .loop-before .inv) (c .next-point-point .ensures) served (c .bisect-rest .ensures);
-    }
+    let found = meets _ _ _ _ _ _ (c .loop-before .inv) (c .next-point-point .ensures) (sym (c .if-is-rest .ensures tt)) (c .bisect-rest .ensures) in
+    record { found = found; says = subst (Says _ _) (sym found) (finding-says _ _ (g .B·Bound·met .lawful (c .args .bound .now)) (c .pre .fit) (c .pre .busy) (c .pre .near)) }
 
 pub loop-before-again : need.loop-before-again
 loop-before-again g c =
@@ -40,4 +37,5 @@ returns g c =
     let l = load (g .B·Bound .meaning (c .args .bound .now)) (c .args .frame) (c .args .own) (c .args .above .now) in
     let e : c .loop-before .before ≡ c .args .last = omega (arith, c .loop-before .inv .within) in
     let passed = subst (λ t. Passed l (c .args .last) t (c .loop-before .points)) e (c .loop-before .inv) in
-    record { found = misses _ _ _ passed; says = misses-says _ _ _ passed }
+    let found = misses _ _ _ passed in
+    record { found = found; says = subst (Says l (c .args .last)) (sym found) (finding-says _ _ (g .B·Bound·met .lawful (c .args .bound .now)) (c .pre .fit) (c .pre .busy) (c .pre .near)) }

@@ -1,0 +1,75 @@
+-- The findings of a table, place by place.
+use Prim.Native.Nat.{ℕ, zero, suc, _+_, _-_, _<_, _≤_}
+use mathlib.Core.Bool.{true}
+use mathlib.Core.List.{List, [], _∷_, _++_}
+use mathlib.Core.Path.{_≡_, refl, sym, ap, ap₂, subst, _∙_}
+use native.Mathlib.Omega.{arith}
+use lib.ListN.{length, getD, set, take, drop}
+use lib.Seq.{paste}
+use Rattle.std.proofs.shelf.Edits.{paste-none, paste-more, paste-all}
+use Rattle.std.proofs.shelf.Elements.{all-take}
+use Rattle.std.proofs.shelf.Lists.{append-assoc, append-nil, getD-drop, length-append, length-take, take-at}
+use Rattle.rows.specs.declared.tasks.Row.{Row}
+use Rattle.rows.specs.Counting.{on-frame, window}
+use Rattle.rows.specs.Lists.{written}
+use Rattle.bounds.specs.Laws.{Laws}
+use Rattle.bounds.specs.Meaning.{Meaning}
+use Rattle.findings.specs.Demand.{load}
+use Rattle.findings.specs.Findings.{Found, finding, row-finding}
+use Rattle.findings.specs.Tables.{findings-below, findings-of, Table-says}
+use Rattle.findings.specs.Fitting.{Fit, Table-fits}
+use Rattle.findings.proofs.Walk.{finding-says}
+
+module _ (m : Meaning) (h : ℕ) where
+  -- there are as many findings as rows
+  pub length-findings-below : (above rows : List Row) → length (findings-below m h above rows) ≡ length rows
+  length-findings-below above [] = refl
+  length-findings-below above (r ∷ rows) = ap suc (length-findings-below (above ++ r ∷ []) rows)
+
+  -- the finding at a place is that of the row there, below the rows before it
+  pub finding-below-at : (above rows : List Row) (i : ℕ) (d : Found) (r : Row) → i < length rows → getD (findings-below m h above rows) i d ≡ row-finding m h (getD rows i r) (above ++ take i rows)
+  finding-below-at above [] i d r within = absurd (let z : ⊥ = omega arith in z)
+  finding-below-at above (s ∷ rows) zero d r within = ap (row-finding m h s) (sym (append-nil above))
+  finding-below-at above (s ∷ rows) (suc i) d r within =
+      finding-below-at (above ++ s ∷ []) rows i d r (omega arith) ∙ ap (row-finding m h (getD rows i r)) (append-assoc above (s ∷ []) (take i rows))
+
+-- the rows before a place fit as rows above
+pub rows-above-fit : (h : ℕ) (rows : List Row) (i : ℕ) → Table-fits h rows → i < length rows → Fit h (take i rows)
+rows-above-fit h rows i fits within = record {
+  frame = fits .frame;
+  few = omega (arith, length-take i rows, fits .few);
+  on = all-take (λ r. on-frame h r ≡ true) i rows (fits .on);
+}
+
+-- a finding counted for the row at a place is the one there among the findings from some place on
+pub counted-at : (m : Meaning) (h : ℕ) (rows : List Row) (from i : ℕ) (r : Row) (f : Found) (last : ℕ) → from ≤ i → i < length rows → r ≡ getD rows i r → last ≡ window r
+    → f ≡ finding (load m h (r .work) (take (i - 0) rows)) last → f ≡ getD (drop from (findings-of m h rows)) (i - from) f
+counted-at m h rows from i r f last late within read at-window found =
+    let whole : i - 0 ≡ i = omega arith in
+    let place : from + (i - from) ≡ i = omega arith in
+    found ∙ ap₂ (λ n l. finding (load m h (r .work) (take n rows)) l) whole at-window ∙ ap (λ s. row-finding m h s (take i rows)) read
+    ∙ sym (finding-below-at m h [] rows i f r within) ∙ ap (λ n. getD (findings-of m h rows) n f) (sym place) ∙ sym (getD-drop from (findings-of m h rows) (i - from) f)
+
+-- of every row of a table that fits the finding says what a finding says
+pub table-says : (m : Meaning) (h : ℕ) (rows : List Row) → Laws m → Table-fits h rows → Table-says m h rows
+table-says m h rows laws fits xs ys r split =
+    let count : length rows ≡ length xs + suc (length ys) = ap length split ∙ length-append xs (r ∷ ys) in
+    let fit = subst (Fit h) (ap (take (length xs)) split ∙ take-at xs (r ∷ ys) (length xs) refl) (rows-above-fit h rows (length xs) fits (omega arith)) in
+    finding-says (load m h (r .work) xs) (window r) laws fit (r .busy) (omega arith)
+
+-- new elements put into a list from a place on, one after another
+module _ {X : Type 0} (old new : List X) (from : ℕ) where
+  -- at first none is
+  pub put-none : old ≡ paste old from new (from - from)
+  put-none = let none : 0 ≡ from - from = omega arith in paste-none old from new ∙ ap (paste old from new) none
+
+  -- then one more
+  pub put-more : (i : ℕ) (x : X) → from ≤ i → i < length old → i - from < length new → x ≡ getD new (i - from) x → set (paste old from new (i - from)) i x ≡ paste old from new (i + 1 - from)
+  put-more i x late within left read =
+      let place : i ≡ from + (i - from) = omega arith in
+      let next : i - from + 1 ≡ i + 1 - from = omega arith in
+      ap₂ (set (paste old from new (i - from))) place read ∙ paste-more old from new (i - from) x (omega arith) left ∙ ap (paste old from new) next
+
+  -- at last all are
+  pub put-all : (i : ℕ) → i - from ≡ length new → paste old from new (i - from) ≡ written old from new
+  put-all i all = ap (paste old from new) all ∙ paste-all old from new (length new) refl

@@ -1,0 +1,12 @@
+use native.Mathlib.Omega.{arith}
+use borrow.Author.Needs.{needs}
+use Rattle.rows.specs.Counting.{on-frame}
+use Rattle.findings.proofs.Standing.{all-from-leading}
+use Rattle.findings.proofs.recounting.check_table.Needs as need
+
+pub returns : need.returns
+returns c = record {
+  checked = search needs;
+  fit = record { frame = search needs; few = search needs; on = all-from-leading (on-frame (c .args .frame)) (c .args .rows .now) (omega arith) };
+  room = search needs;
+}
