@@ -1,0 +1,56 @@
+// The survey of a table.
+ghost use mathlib.Core.List.{map};
+ghost use mathlib.Core.Path.{_≡_};
+ghost use lib.ListN.{length};
+ghost use Rattle.std.specs.Results.{Cases};
+ghost use Rattle.std.specs.Vec.{made};
+ghost use Rattle.rows.specs.Answers.{answer, checked};
+ghost use Rattle.rows.specs.Judging.{plain, rows-of};
+ghost use Rattle.rows.specs.Lists.{written};
+ghost use Rattle.findings.specs.Findings.{tells};
+ghost use Rattle.findings.specs.Tables.{findings-of, Table-says};
+ghost use Rattle.tables.specs.Surveys.{survey-checks};
+use crate::judgement::judge_all;
+use bounds::Bound;
+use findings::Finding;
+use findings::recount;
+use rows::Fault;
+use rows::MOST_ROWS;
+use rows::Numbers;
+use rows::Refusal;
+use rows::Row;
+use rows::is_frame;
+
+// Judges every place of a table and puts the findings of its rows into the list, in rank order;
+// the places past the last row stay. Answers how many there are. A refusal leaves the list.
+pub fn survey<B: Bound>(
+    bound: &B,
+    frame: u32,
+    table: &[Numbers],
+    list: &mut [Finding],
+) -> Result<usize, Fault>
+    ensures answered { λ r. ⌜ answer (λ n. n) r ≡ checked (survey-checks frame (now (table .entry)) (length (now (list .entry)))) (length (now (table .entry))) ⌝ }
+    ensures filled { λ r. ⌜ Cases r (λ _. map tells (now (list .exit)) ≡ written (map tells (now (list .entry))) 0 (findings-of (meaning (now (bound .entry))) frame (rows-of (now (table .entry))))) (λ _. now (list .exit) ≡ now (list .entry)) ⌝ }
+    ensures rows { λ r. ⌜ made r (λ _. map plain (rows-of (now (table .entry))) ≡ now (table .entry)) ⌝ }
+    ensures says { λ r. ⌜ made r (λ _. Table-says (meaning (now (bound .entry))) frame (rows-of (now (table .entry)))) ⌝ }
+{
+    if !is_frame(frame) {
+        return Err(Refusal::BadFrame.at(0));
+    }
+    if table.len() > MOST_ROWS {
+        return Err(Refusal::FullTable.at(0));
+    }
+    if list.len() < table.len() {
+        return Err(Refusal::ShortList.at(0));
+    }
+    let unused = Row {
+        work: 1,
+        deadline: 1,
+        period: 1,
+        jitter: 0,
+    };
+    let mut rows = [unused; MOST_ROWS];
+    judge_all(frame, table, &mut rows)?;
+    recount(bound, frame, &rows[0..table.len()], 0, list)?;
+    Ok(table.len())
+}
