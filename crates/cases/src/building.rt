@@ -1,4 +1,6 @@
-// Short ways to write down rows.
+// Short ways to write down rows and findings.
+use findings::Finding;
+use findings::Verdict;
 use rows::Fault;
 use rows::Numbers;
 use rows::Row;
@@ -16,4 +18,20 @@ pub(crate) fn numbers(work: u32, deadline: u32, period: u32, jitter: u32) -> Num
 // The row of four numbers.
 pub(crate) fn row(work: u32, deadline: u32, period: u32, jitter: u32) -> Result<Row, Fault> {
     numbers(work, deadline, period, jitter).judge(0)
+}
+
+// A finding of a first rest.
+pub(crate) fn meets(rest: u32, points: u32) -> Finding {
+    Finding {
+        verdict: Verdict::Meets(rest),
+        points,
+    }
+}
+
+// A finding of a miss.
+pub(crate) fn misses(points: u32) -> Finding {
+    Finding {
+        verdict: Verdict::Misses,
+        points,
+    }
 }

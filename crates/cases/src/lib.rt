@@ -7,3 +7,5 @@ mod building;
 mod judged;
 #[cfg(test)]
 mod searched;
+#[cfg(test)]
+mod surveyed;

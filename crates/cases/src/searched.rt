@@ -1,13 +1,13 @@
 // Findings about rows, counted by hand, and questions that are refused.
+use crate::building::meets;
+use crate::building::misses;
 use crate::building::row;
 use bounds::ExactSteps;
 use bounds::ExactStepsBound;
 use bounds::LinearTail;
 use bounds::LinearTailBound;
-use findings::Finding;
 use findings::FindingDebug;
 use findings::FindingPartialEq;
-use findings::Verdict;
 use findings::find;
 use findings::response_time;
 use rows::FaultDebug;
@@ -18,22 +18,6 @@ use rows::HORIZON;
 use rows::Refusal;
 use rows::Row;
 use std::test::*;
-
-// A finding of a first rest.
-fn meets(rest: u32, points: u32) -> Finding {
-    Finding {
-        verdict: Verdict::Meets(rest),
-        points,
-    }
-}
-
-// A finding of a miss.
-fn misses(points: u32) -> Finding {
-    Finding {
-        verdict: Verdict::Misses,
-        points,
-    }
-}
 
 // With a window of 1 there is one instant to test.
 #[test]

@@ -1,11 +1,10 @@
 use Prim.Native.Nat.{_-_, _<_}
 use mathlib.Core.List.{[], map}
-use mathlib.Core.Path.{_≡_, sym, ap, subst, _∙_}
+use mathlib.Core.Path.{_≡_, ap, _∙_}
 use native.Mathlib.Omega.{arith}
-use lib.ListN.{length, drop, set, take}
+use lib.ListN.{length, drop, set}
 use Rattle.std.proofs.shelf.Lists.{length-drop, length-map, map-set}
 use Rattle.findings.specs.Findings.{tells}
-use Rattle.findings.specs.Fitting.{Fit}
 use Rattle.findings.specs.Tables.{findings-of}
 use Rattle.findings.proofs.Tables.{length-findings-below, rows-above-fit, counted-at, put-none, put-more, put-all}
 use Rattle.findings.proofs.recounting.fill.Needs as need
@@ -14,14 +13,12 @@ pub loop-i-holds : need.loop-i-holds
 loop-i-holds g c = (omega arith, put-none _ _ (c .args .from))
 
 pub search-requires : need.search-requires
-search-requires g c κs =
-    let whole : c .loop-i .i ≡ c .loop-i .i - 0 = omega arith in
-    record {
-      fit = subst (λ n. Fit (c .args .frame) (take n (c .args .rows .now))) whole (rows-above-fit (c .args .frame) (c .args .rows .now) (c .loop-i .i) (c .pre .fit) (c .loop-i-test .taken));
-      busy = omega arith;
-      some = omega (arith, c .window .ensures);
-      near = omega (arith, c .window .ensures);
-    }
+search-requires g c κs = record {
+  fit = rows-above-fit (c .args .frame) (c .args .rows .now) _ (c .pre .fit) (omega (arith, c .loop-i .kept .i, c .loop-i-test .taken));
+  busy = omega arith;
+  some = omega (arith, c .window .ensures);
+  near = omega (arith, c .window .ensures);
+}
 
 pub loop-i-again : need.loop-i-again
 loop-i-again g c =
