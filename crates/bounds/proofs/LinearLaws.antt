@@ -18,7 +18,7 @@ use Rattle.bounds.proofs.Corners.{earlier-before, later-past, rest-before, sti
 use Rattle.bounds.proofs.ExactLaws.{exact-bends}
 
 -- the straight line of the tail
-abbrev line : ℕ → Row → ℕ → ℕ
+abbrev pub line : ℕ → Row → ℕ → ℕ
 line h r t = h * r .work + (t + r .jitter) * r .work * (h / r .period)
 
 -- the work of a row, for each of its periods in the frame
@@ -62,7 +62,7 @@ module _ (k h : ℕ) (r : Row) where
   amount = linear-tail k .amount h r
 
   -- the amount is nowhere above the line
-  below-line : (t : ℕ) → h / r .period * r .period ≡ h → amount t ≤ line h r t
+  pub below-line : (t : ℕ) → h / r .period * r .period ≡ h → amount t ≤ line h r t
   below-line t whole = cond-both (before-tail k r t) (h * steps r t) (line h r t) (λ x. x ≤ line h r t) (λ _. line-covers h r t whole) (λ _. omega arith)
 
   -- before the tail the amount bends upward only where steps rise

@@ -11,7 +11,7 @@ use Rattle.std.proofs.shelf.Tests.{and-parts, and-from, leb-true, le-leb, eqb-t
 use Rattle.rows.specs.declared.tasks.Row.{Row}
 use Rattle.rows.specs.Times.{ceiling}
 use Rattle.rows.specs.Counting.{steps}
-use Rattle.rows.proofs.Ceiling.{ceiling-is, ceiling-covers, ceiling-tight}
+use Rattle.rows.proofs.Ceiling.{ceiling-is, ceiling-covers, ceiling-tight, ceiling-grows}
 use Rattle.bounds.specs.Instants.{First}
 use Rattle.bounds.specs.Supplied.{rises, Rising}
 
@@ -57,12 +57,7 @@ first-rise r s =
 
 -- steps never fall
 pub steps-grow : (r : Row) (s t : ℕ) → s ≤ t → steps r s ≤ steps r t
-steps-grow r s t order =
-    let some : 0 < r .period = omega arith in
-    let tight = ceiling-tight (s + r .jitter) (r .period) some in
-    let covers = ceiling-covers (t + r .jitter) (r .period) some in
-    let jobs = lt-of-mul-lt-mul-right (r .period) {m = ceiling (s + r .jitter) (r .period)} {n = ceiling (t + r .jitter) (r .period) + 1} (omega arith) in
-    mul-le (r .work) _ (r .work) _ (omega arith) (omega arith)
+steps-grow r s t order = mul-le (r .work) _ (r .work) _ (omega arith) (ceiling-grows (s + r .jitter) (t + r .jitter) (r .period) (omega arith) (omega arith))
 
 -- where they do not rise, they stay
 pub steps-stay : (r : Row) (t : ℕ) → 1 ≤ t → rises r t ≡ false → steps r (t + 1) ≡ steps r t

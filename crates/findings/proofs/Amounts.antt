@@ -16,15 +16,12 @@ use Rattle.rows.specs.Times.{horizon, is-frame}
 use Rattle.rows.specs.Counting.{on-frame, steps}
 use Rattle.bounds.specs.Laws.{Laws}
 use Rattle.bounds.specs.Meaning.{Meaning, asked}
-use Rattle.bounds.proofs.Asking.{most-parts, steps-fit}
+use Rattle.bounds.proofs.Fitting.{largest, amount-fits}
+use Rattle.findings.specs.Asking.{most-above}
 use Rattle.findings.specs.Demand.{Load, load, demand, rests}
 use Rattle.findings.specs.Points.{any, bend}
-use Rattle.findings.specs.Fitting.{Fit, Once-then-on}
+use Rattle.findings.specs.Fitting.{Stands, Once-then-on}
 use Rattle.findings.proofs.Turning.{on-from}
-
--- the largest amount that any bound can have: twice what the exact steps can have
-abbrev largest : ℕ
-largest = 2 * most-parts
 
 -- a row on the frame, at an instant up to the horizon, is one that a bound is asked about
 pub is-asked : (h : ℕ) (r : Row) (t : ℕ) → is-frame h ≡ true → on-frame h r ≡ true → t ≤ horizon → asked h r t ≡ true
@@ -37,24 +34,11 @@ frame-low h frame = leb-true 1 h (and-parts _ _ frame .0)
 frame-high : (h : ℕ) → is-frame h ≡ true → h ≤ horizon
 frame-high h frame = leb-true h horizon (and-parts _ _ frame .1)
 
--- (k + 1) / k times as much is at most twice as much
-at-most-twice : (k f x : ℕ) → 1 ≤ k → k * f ≤ (k + 1) * x → x ≤ most-parts → f ≤ largest
-at-most-twice k f x some close small =
-    ⊎-elim (λ (over : 2 * x < f). absurd (let z : ⊥ = omega (arith, mul-le k (2 * x + 1) k f (omega arith) (omega arith), mul-le 1 x k x some (omega arith)) in z))
-    (λ (under : f ≤ 2 * x). omega arith)
-    (cases-lt (2 * x) f)
-
 module _ {m : Meaning} (laws : Laws m) where
-  -- no amount is larger than twice what the exact steps can have
-  amount-small : (h : ℕ) (r : Row) (t : ℕ) → is-frame h ≡ true → on-frame h r ≡ true → t ≤ horizon → m .amount h r t ≤ largest
-  amount-small h r t frame on near =
-      at-most-twice (m .accuracy) (m .amount h r t) (h * steps r t) (laws .some-accuracy) (laws .close h r t (is-asked h r t frame on near))
-      (steps-fit h r t (frame-high h frame) near)
-
-  -- nor is any of a sum of them
+  -- a sum of amounts is at most as many times the largest
   sum-small : (h : ℕ) (rs : List Row) (t : ℕ) → is-frame h ≡ true → All (λ r. on-frame h r ≡ true) rs → t ≤ horizon → sumBy (λ r. m .amount h r t) rs ≤ length rs * largest
   sum-small h rs t frame on near =
-      sumBy-le (λ r. m .amount h r t) largest rs (all-weaker (λ r. on-frame h r ≡ true) (λ r. m .amount h r t ≤ largest) (λ r o. amount-small h r t frame o near) rs on)
+      sumBy-le (λ r. m .amount h r t) largest rs (all-weaker (λ r. on-frame h r ≡ true) (λ r. m .amount h r t ≤ largest) (λ r o. amount-fits laws h r t (is-asked h r t frame o near)) rs on)
 
   -- a sum does not bend upward where none of its amounts has a corner
   sum-bends : (h : ℕ) (rs : List Row) (t : ℕ) → is-frame h ≡ true → All (λ r. on-frame h r ≡ true) rs → suc t < horizon → any (λ r. m .corner r (suc t)) rs ≡ false
@@ -83,24 +67,24 @@ pub demand-so-far : (m : Meaning) (h own : ℕ) (rs : List Row) (i t : ℕ) → 
 demand-so-far m h own rs i t = omega (arith, sumBy-take-le (λ s. m .amount h s t) rs i)
 
 -- a row above is one that the bound is asked about
-pub asked-above : (h : ℕ) (above : List Row) → Fit h above → (i : ℕ) (r : Row) (t : ℕ) → i < length above → r ≡ getD above i r → t ≤ horizon → asked h r t ≡ true
-asked-above h above fit i r t within read near =
-    let on = all-getD (λ s. on-frame h s ≡ true) above i r within (fit .on) in
-    is-asked h r t (fit .frame) (subst (λ s. on-frame h s ≡ true) (sym read) on) near
+pub asked-above : (h : ℕ) (above : List Row) → Stands h above → (i : ℕ) (r : Row) (t : ℕ) → i < length above → r ≡ getD above i r → t ≤ horizon → asked h r t ≡ true
+asked-above h above stands i r t within read near =
+    let on = all-getD (λ s. on-frame h s ≡ true) above i r within (stands .on) in
+    is-asked h r t (stands .frame) (subst (λ s. on-frame h s ≡ true) (sym read) on) near
 
-module _ (l : Load) (laws : Laws (l .bound)) (fit : Fit (l .frame) (l .above)) where
+module _ (l : Load) (laws : Laws (l .bound)) (stands : Stands (l .frame) (l .above)) where
   -- the demand fits 64 bits with room to spare
-  pub demand-small : (t : ℕ) → t ≤ horizon → l .own < 2 ^ 32 → demand l t < 2 ^ 63
-  demand-small t near fits =
-      let sum = sum-small laws (l .frame) (l .above) t (fit .frame) (fit .on) near in
-      let rows = mul-le (length (l .above)) largest 31 largest (fit .few) (omega arith) in
-      let own : l .frame * l .own ≤ 16777216 * 4294967296 = mul-le (l .frame) (l .own) 16777216 4294967296 (frame-high (l .frame) (fit .frame)) (omega arith) in
+  pub demand-small : (t : ℕ) → length (l .above) ≤ most-above → t ≤ horizon → l .own < 2 ^ 32 → demand l t < 2 ^ 63
+  demand-small t few near fits =
+      let sum = sum-small laws (l .frame) (l .above) t (stands .frame) (stands .on) near in
+      let rows = mul-le (length (l .above)) largest 31 largest few (omega arith) in
+      let own : l .frame * l .own ≤ 16777216 * 4294967296 = mul-le (l .frame) (l .own) 16777216 4294967296 (frame-high (l .frame) (stands .frame)) (omega arith) in
       omega arith
 
   -- nothing is served at 0
   pub no-rest-at-start : 1 ≤ l .own → rests l 0 ≡ false
   no-rest-at-start busy =
-      let some : 1 * 1 ≤ l .frame * l .own = mul-le 1 1 (l .frame) (l .own) (frame-low (l .frame) (fit .frame)) busy in
+      let some : 1 * 1 ≤ l .frame * l .own = mul-le 1 1 (l .frame) (l .own) (frame-low (l .frame) (stands .frame)) busy in
       lt-leb (demand l 0) (l .frame * 0) (omega arith)
 
   -- once the row rests between p and q, it rests from there to q, where no row above has a corner between them
@@ -109,6 +93,6 @@ module _ (l : Load) (laws : Laws (l .bound)) (fit : Fit (l .frame) (l .above)) w
       let e : i + (j - i) ≡ j = omega arith in
       let on =
       on-from (demand l) (l .frame) p q (leb-false (demand l p) (l .frame * p) late)
-      (λ t from before. omega (arith, sum-bends laws (l .frame) (l .above) t (fit .frame) (fit .on) (omega arith) (straight (suc t) (omega arith) before)))
+      (λ t from before. omega (arith, sum-bends laws (l .frame) (l .above) t (stands .frame) (stands .on) (omega arith) (straight (suc t) (omega arith) before)))
       (j - i) i after (omega arith) (leb-true (demand l i) (l .frame * i) rest) in
       le-leb (demand l j) (l .frame * j) (subst (λ x. demand l x ≤ l .frame * x) e on)

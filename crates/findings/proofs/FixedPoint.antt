@@ -2,7 +2,7 @@
 use Prim.Native.Nat.{ℕ, zero, suc, _+_, _*_, _<_, _≤_}
 use mathlib.Core.Bool.{false}
 use mathlib.Core.List.{List, [], _∷_}
-use mathlib.Core.Path.{_≡_, refl, sym, ap, fun-ext, subst, _∙_}
+use mathlib.Core.Path.{_≡_, refl, sym, ap, fun-ext, _∙_}
 use mathlib.Core.Logic.{⊎-elim}
 use native.Mathlib.Omega.{arith}
 use lib.Dec.{leb}
@@ -17,20 +17,20 @@ use Rattle.rows.specs.declared.tasks.Row.{Row}
 use Rattle.rows.specs.Counting.{window, steps}
 use Rattle.bounds.specs.Instants.{least, First}
 use Rattle.bounds.specs.Supplied.{exact-steps}
-use Rattle.bounds.proofs.Instants.{least-after}
+use Rattle.bounds.proofs.Instants.{least-up-to}
 use Rattle.bounds.proofs.Rising.{steps-grow}
 use Rattle.findings.specs.Demand.{load, rests}
-use Rattle.findings.specs.Exact.{exact-demand, exact-rests, response, Least-fixed-point, Responds}
+use Rattle.findings.specs.Exact.{exact-demand, exact-rests, exact-rest, response, Least-fixed-point, Responds}
 use Rattle.findings.specs.Findings.{Found, first-rest, finding, row-finding}
 
 -- a factor goes before a sum
-sum-scaled : {X : Type 0} (h : ℕ) (f : X → ℕ) (xs : List X) → sumBy (λ x. h * f x) xs ≡ h * sumBy f xs
+pub sum-scaled : {X : Type 0} (h : ℕ) (f : X → ℕ) (xs : List X) → sumBy (λ x. h * f x) xs ≡ h * sumBy f xs
 sum-scaled h f [] = omega arith
 sum-scaled h f (x ∷ xs) =
     rw (sumBy-cons (λ y. h * f y) x xs, sumBy-cons f x xs) (omega (arith, sum-scaled h f xs))
 
 -- a common factor does not change an order
-leb-scaled : (h a b : ℕ) → 1 ≤ h → leb (h * a) (h * b) ≡ leb a b
+pub leb-scaled : (h a b : ℕ) → 1 ≤ h → leb (h * a) (h * b) ≡ leb a b
 leb-scaled h a b some =
     ⊎-elim (λ (over : b < a). lt-leb (h * a) (h * b) (omega (arith, mul-le h (suc b) h a (omega arith) over)) ∙ sym (lt-leb a b over))
     (λ (under : a ≤ b). le-leb (h * a) (h * b) (mul-le h a h b (omega arith) under) ∙ sym (le-leb a b under))
@@ -42,15 +42,20 @@ found-at-window h r above f last e found = found ∙ ap (finding (load exact-ste
 
 module _ (h : ℕ) (r : Row) (above : List Row) (some : 1 ≤ h) where
   -- by exact steps a row rests where it does with no frame
-  rests-exactly : (t : ℕ) → rests (load exact-steps h (r .work) above) t ≡ exact-rests r above t
+  pub rests-exactly : (t : ℕ) → rests (load exact-steps h (r .work) above) t ≡ exact-rests r above t
   rests-exactly t =
       let whole : h * r .work + sumBy (λ s. h * steps s t) above ≡ h * exact-demand r above t = omega (arith, sum-scaled h (λ s. steps s t) above) in
       ap (λ n. leb n (h * t)) whole ∙ leb-scaled h (exact-demand r above t) t some
 
-  -- so the response time is the first rest of the exact count plus the jitter
+  -- so its first rest by exact steps is the one with no frame
+  pub exact-rest-is : row-finding exact-steps h r above .rest ≡ exact-rest r above
+  unfolding first-rest exact-rest
+  exact-rest-is = ap (λ p. least p (window r) 1) (fun-ext rests-exactly)
+
+  -- and the response time is the first rest of the exact count plus the jitter
   pub response-is : mapped (λ t. t + r .jitter) (row-finding exact-steps h r above .rest) ≡ response r above
-  unfolding first-rest response
-  response-is = ap (λ p. mapped (λ t. t + r .jitter) (least p (window r) 1)) (fun-ext rests-exactly)
+  unfolding response
+  response-is = ap (mapped (λ t. t + r .jitter)) exact-rest-is
 
 module _ (r : Row) (above : List Row) where
   -- the exact demand never falls
@@ -78,11 +83,9 @@ module _ (r : Row) (above : List Row) where
       }
 
   pub responds : Responds r above (response r above)
-  unfolding response
-  responds = at (least (exact-rests r above) (window r) 1) (least-after (exact-rests r above) (window r) 0)
+  unfolding exact-rest response
+  responds = at (least (exact-rests r above) (window r) 1) (least-up-to (exact-rests r above) (window r))
     where
-      at : (o : Option ℕ) → Cases o ((i : ℕ) → 0 < i → i ≤ 0 + window r → exact-rests r above i ≡ false) (First (exact-rests r above) 0 (0 + window r)) → Responds r above (mapped (λ t. t + r .jitter) o)
-      at None none = λ t low high fixed. omega (arith, leb-false (exact-demand r above t) t (none t low (omega arith)))
-      at (Some t) first =
-          let e : 0 + window r ≡ window r = omega arith in
-          (t, least-fixed t (subst (λ e. First (exact-rests r above) 0 e t) e first), refl, omega (arith, first .within))
+      at : (o : Option ℕ) → Cases o ((i : ℕ) → 1 ≤ i → i ≤ window r → exact-rests r above i ≡ false) (First (exact-rests r above) 0 (window r)) → Responds r above (mapped (λ t. t + r .jitter) o)
+      at None none = λ t low high fixed. omega (arith, leb-false (exact-demand r above t) t (none t low high))
+      at (Some t) first = (t, least-fixed t first, refl, omega (arith, first .within))

@@ -6,18 +6,21 @@ use mathlib.Core.Path.{_≡_, refl, sym, ap, ap₂, subst, _∙_}
 use native.Mathlib.Omega.{arith}
 use lib.ListN.{length, getD, set, take, drop}
 use lib.Seq.{paste}
+use Rattle.std.specs.shelf.Lists.{All}
 use Rattle.std.proofs.shelf.Edits.{paste-none, paste-more, paste-all}
 use Rattle.std.proofs.shelf.Elements.{all-take}
-use Rattle.std.proofs.shelf.Lists.{append-assoc, append-nil, getD-drop, length-append, length-take, take-at}
+use Rattle.std.proofs.shelf.Lists.{append-assoc, append-nil, getD-drop, length-take, take-at}
 use Rattle.rows.specs.declared.tasks.Row.{Row}
 use Rattle.rows.specs.Counting.{on-frame, window}
 use Rattle.rows.specs.Lists.{written}
 use Rattle.bounds.specs.Laws.{Laws}
 use Rattle.bounds.specs.Meaning.{Meaning}
+use Rattle.rows.specs.Times.{most-rows}
+use Rattle.findings.specs.Asking.{most-above}
 use Rattle.findings.specs.Demand.{load}
 use Rattle.findings.specs.Findings.{Found, finding, row-finding}
 use Rattle.findings.specs.Tables.{findings-below, findings-of, Table-says}
-use Rattle.findings.specs.Fitting.{Fit, Table-fits}
+use Rattle.findings.specs.Fitting.{Fit, Stands}
 use Rattle.findings.proofs.Walk.{finding-says}
 
 module _ (m : Meaning) (h : ℕ) where
@@ -34,11 +37,10 @@ module _ (m : Meaning) (h : ℕ) where
       finding-below-at (above ++ s ∷ []) rows i d r (omega arith) ∙ ap (row-finding m h (getD rows i r)) (append-assoc above (s ∷ []) (take i rows))
 
 -- the rows before a place fit as rows above
-pub rows-above-fit : (h : ℕ) (rows : List Row) (i : ℕ) → Table-fits h rows → i < length rows → Fit h (take i rows)
-rows-above-fit h rows i fits within = record {
-  frame = fits .frame;
-  few = omega (arith, length-take i rows, fits .few);
-  on = all-take (λ r. on-frame h r ≡ true) i rows (fits .on);
+pub rows-above-fit : (h : ℕ) (rows : List Row) (i : ℕ) → Fit most-rows h rows → i < length rows → Fit most-above h (take i rows)
+rows-above-fit h rows i fit within = record {
+  stands = record { frame = fit .stands .frame; on = all-take (λ r. on-frame h r ≡ true) i rows (fit .stands .on) };
+  few = omega (arith, length-take i rows, fit .few);
 }
 
 -- a finding counted for the row at a place is the one there among the findings from some place on
@@ -50,12 +52,12 @@ counted-at m h rows from i r f last late within read at-window found =
     found ∙ ap₂ (λ n l. finding (load m h (r .work) (take n rows)) l) whole at-window ∙ ap (λ s. row-finding m h s (take i rows)) read
     ∙ sym (finding-below-at m h [] rows i f r within) ∙ ap (λ n. getD (findings-of m h rows) n f) (sym place) ∙ sym (getD-drop from (findings-of m h rows) (i - from) f)
 
--- of every row of a table that fits the finding says what a finding says
-pub table-says : (m : Meaning) (h : ℕ) (rows : List Row) → Laws m → Table-fits h rows → Table-says m h rows
-table-says m h rows laws fits xs ys r split =
-    let count : length rows ≡ length xs + suc (length ys) = ap length split ∙ length-append xs (r ∷ ys) in
-    let fit = subst (Fit h) (ap (take (length xs)) split ∙ take-at xs (r ∷ ys) (length xs) refl) (rows-above-fit h rows (length xs) fits (omega arith)) in
-    finding-says (load m h (r .work) xs) (window r) laws fit (r .busy) (omega arith)
+-- of every row of a table that stands on a frame the finding says what a finding says
+pub table-says : (m : Meaning) (h : ℕ) (rows : List Row) → Laws m → Stands h rows → Table-says m h rows
+table-says m h rows laws stands xs ys r split =
+    let front = ap (take (length xs)) split ∙ take-at xs (r ∷ ys) (length xs) refl in
+    let on = subst (All (λ s. on-frame h s ≡ true)) front (all-take (λ s. on-frame h s ≡ true) (length xs) rows (stands .on)) in
+    finding-says (load m h (r .work) xs) (window r) laws (record { frame = stands .frame; on = on }) (r .busy) (omega arith)
 
 -- new elements put into a list from a place on, one after another
 module _ {X : Type 0} (old new : List X) (from : ℕ) where

@@ -16,7 +16,7 @@ use Rattle.bounds.proofs.Instants.{least-after, least-some, least-none, least-u
 use Rattle.findings.specs.Demand.{Load, rests}
 use Rattle.findings.specs.Points.{bend}
 use Rattle.findings.specs.Findings.{first-rest, tested, accepts, stop, points, finding, Says}
-use Rattle.findings.specs.Fitting.{Fit, Once-then-on}
+use Rattle.findings.specs.Fitting.{Stands, Once-then-on}
 use Rattle.findings.proofs.Turning.{not-before}
 use Rattle.findings.proofs.Amounts.{no-rest-at-start, rests-on}
 
@@ -33,11 +33,11 @@ no-bend l last t before none =
     ⊎-elim (λ (z : ltb t last ≡ false). absurd (both-ways (ltb t last) z (lt-ltb t last before))) (λ e. e) (and-cases (ltb t last) (bend (l .bound) (l .above) t) inner)
 
 -- the walk begins at 0, with no point seen
-pub start : (l : Load) (last : ℕ) → Laws (l .bound) → Fit (l .frame) (l .above) → 1 ≤ l .own → Passed l last 0 0
+pub start : (l : Load) (last : ℕ) → Laws (l .bound) → Stands (l .frame) (l .above) → 1 ≤ l .own → Passed l last 0 0
 unfolding count
-start l last laws fit busy = record {
+start l last laws stands busy = record {
   within = omega arith;
-  none = λ i low. let e : 0 ≡ i = omega arith in subst (λ j. rests l j ≡ false) e (no-rest-at-start l laws fit busy);
+  none = λ i low. let e : 0 ≡ i = omega arith in subst (λ j. rests l j ≡ false) e (no-rest-at-start l laws stands busy);
   counted = refl;
 }
 
@@ -49,11 +49,11 @@ up-to-and-after b i old new = ⊎-elim new old (cases-lt b i)
 one-point-more : (l : Load) (last before seen point : ℕ) → Passed l last before seen → First (tested l last) before last point → seen + 1 ≡ count (tested l last) point
 one-point-more l last before seen point passed next = ap (λ n. n + 1) (passed .counted) ∙ sym (count-first (tested l last) before last point next)
 
-module _ (l : Load) (last : ℕ) (laws : Laws (l .bound)) (fit : Fit (l .frame) (l .above)) (near : last ≤ horizon) where
+module _ (l : Load) (last : ℕ) (laws : Laws (l .bound)) (stands : Stands (l .frame) (l .above)) (near : last ≤ horizon) where
   -- between the instant passed and the next test point a row that rests goes on resting
   pub turns-once : (before seen point : ℕ) → Passed l last before seen → First (tested l last) before last point → Once-then-on (rests l) before point
   turns-once before seen point passed next =
-      rests-on l laws fit before point (omega (arith, next .within)) (passed .none before (omega arith))
+      rests-on l laws stands before point (omega (arith, next .within)) (passed .none before (omega arith))
       (λ t after early. no-bend l last t (omega (arith, next .within)) (next .none t after early))
 
   -- a test point at which the row does not rest is passed
@@ -109,7 +109,7 @@ module _ (l : Load) (last seen : ℕ) (passed : Passed l last last seen) where
       λ i. record { rest = sym at-rest i; points = same i }
 
 -- what a finding says holds of the finding that is defined
-module _ (l : Load) (last : ℕ) (laws : Laws (l .bound)) (fit : Fit (l .frame) (l .above)) (busy : 1 ≤ l .own) (near : last ≤ horizon) where
+module _ (l : Load) (last : ℕ) (laws : Laws (l .bound)) (stands : Stands (l .frame) (l .above)) (busy : 1 ≤ l .own) (near : last ≤ horizon) where
   -- after every instant before the last there is a next test point
   next-test : (n : ℕ) → n < last → (q : ℕ) × First (tested l last) n last q
   next-test n before = at (least (tested l last) (last - n) (n + 1)) (least-after (tested l last) (last - n) n)
@@ -120,13 +120,13 @@ module _ (l : Load) (last : ℕ) (laws : Laws (l .bound)) (fit : Fit (l .frame) 
 
   -- where no test point is a rest, no instant is
   no-rest : ((i : ℕ) → 1 ≤ i → i ≤ last → accepts l last i ≡ false) → (n : ℕ) → n ≤ last → (i : ℕ) → i ≤ n → rests l i ≡ false
-  no-rest none zero within i low = start l last laws fit busy .none i low
+  no-rest none zero within i low = start l last laws stands busy .none i low
   no-rest none (suc n) within i low =
       let (q, next) = next-test n within in
       let late : rests l q ≡ false = ⊎-elim (λ (z : tested l last q ≡ false). absurd (both-ways (tested l last q) z (next .holds))) (λ e. e)
       (and-cases (tested l last q) (rests l q) (none q (omega (arith, next .after)) (next .within))) in
       let passed : Passed l last n (count (tested l last) n) = record { within = omega arith; none = no-rest none n (omega arith); counted = refl } in
-      pass l last laws fit near n _ q passed next late .none i (omega (arith, next .after))
+      pass l last laws stands near n _ q passed next late .none i (omega (arith, next .after))
 
   pub finding-says : Says l last (finding l last)
   unfolding first-rest stop points

@@ -19,9 +19,13 @@ exact-demand r above t = r .work + sumBy (λ s. steps s t) above
 abbrev pub exact-rests : Row → List Row → ℕ → Bool
 exact-rests r above t = leb (exact-demand r above t) t
 
--- the response time: the least rest in exact steps up to the window, plus the jitter
+-- the first rest in exact steps: the least instant from 1 to the window at which the row rests, whatever the frame
+unfoldable pub exact-rest : Row → List Row → Option ℕ
+exact-rest r above = least (exact-rests r above) (window r) 1
+
+-- the response time: the first rest in exact steps, plus the jitter
 unfoldable pub response : Row → List Row → Option ℕ
-response r above = mapped (λ t. t + r .jitter) (least (exact-rests r above) (window r) 1)
+response r above = mapped (λ t. t + r .jitter) (exact-rest r above)
 
 -- t is the least instant from 1 on at which the exact demand is t itself
 pub record Least-fixed-point (r : Row) (above : List Row) (t : ℕ) : Type 0 where

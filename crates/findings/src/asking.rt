@@ -5,7 +5,7 @@ ghost use Rattle.std.specs.Options.{mapped};
 ghost use Rattle.std.specs.Vec.{made};
 ghost use Rattle.rows.specs.Answers.{answer, checked};
 ghost use Rattle.bounds.specs.Supplied.{exact-steps};
-ghost use Rattle.findings.specs.Asking.{checks, standing};
+ghost use Rattle.findings.specs.Asking.{checks, most-above, standing};
 ghost use Rattle.findings.specs.Findings.{tells, row-finding, Row-says};
 ghost use Rattle.findings.specs.Exact.{response, Responds};
 ghost use Rattle.findings.specs.Fitting.{Fit};
@@ -38,7 +38,7 @@ pub(crate) fn standing(frame: u32, rows: &[Row]) -> usize
 // What is checked of a question before anything is counted.
 fn check(frame: u32, row: &Row, above: &[Row]) -> Result<(), Fault>
     ensures checked { λ r. ⌜ answer (λ u. u) r ≡ checked (checks frame (now (row .entry)) (now (above .entry))) tt ⌝ }
-    ensures fit { λ r. ⌜ made r (λ _. Fit frame (now (above .entry))) ⌝ }
+    ensures fit { λ r. ⌜ made r (λ _. Fit most-above frame (now (above .entry))) ⌝ }
 {
     if !is_frame(frame) {
         return Err(Refusal::BadFrame.at(0));

@@ -7,10 +7,11 @@ ghost use Rattle.std.specs.Results.{Cases};
 ghost use Rattle.std.specs.Vec.{made};
 ghost use Rattle.rows.specs.Answers.{answer, checked};
 ghost use Rattle.rows.specs.Lists.{written};
+ghost use Rattle.rows.specs.Times.{most-rows};
 ghost use Rattle.findings.specs.Asking.{table-checks};
 ghost use Rattle.findings.specs.Findings.{tells};
 ghost use Rattle.findings.specs.Tables.{findings-of, Table-says};
-ghost use Rattle.findings.specs.Fitting.{Table-fits};
+ghost use Rattle.findings.specs.Fitting.{Fit};
 use crate::asking::standing;
 use crate::searching::search;
 use crate::verdicts::Finding;
@@ -24,7 +25,7 @@ use rows::is_frame;
 // What is checked before a table is counted into a list of so many places.
 fn check_table(frame: u32, rows: &[Row], places: usize) -> Result<(), Fault>
     ensures checked { λ r. ⌜ answer (λ u. u) r ≡ checked (table-checks frame (now (rows .entry)) places) tt ⌝ }
-    ensures fit { λ r. ⌜ made r (λ _. Table-fits frame (now (rows .entry))) ⌝ }
+    ensures fit { λ r. ⌜ made r (λ _. Fit most-rows frame (now (rows .entry))) ⌝ }
     ensures room { λ r. ⌜ made r (λ _. length (now (rows .entry)) ≤ places) ⌝ }
 {
     if !is_frame(frame) {
@@ -45,7 +46,7 @@ fn check_table(frame: u32, rows: &[Row], places: usize) -> Result<(), Fault>
 
 // Puts the findings of the rows from a place on into the list, each at its row's place.
 fn fill<B: Bound>(bound: &B, frame: u32, rows: &[Row], from: usize, list: &mut [Finding])
-    requires fit { ⌜ Table-fits frame (now rows) ⌝ }
+    requires fit { ⌜ Fit most-rows frame (now rows) ⌝ }
     requires room { ⌜ length (now rows) ≤ length (now list) ⌝ }
     ensures { λ _. ⌜ map tells (now (list .exit)) ≡ written (map tells (now (list .entry))) from (drop from (findings-of (meaning (now (bound .entry))) frame (now (rows .entry)))) ⌝ }
 {

@@ -4,6 +4,7 @@ ghost use mathlib.Core.Bool.{true};
 ghost use mathlib.Core.Path.{_≡_};
 ghost use Rattle.rows.specs.Times.{horizon};
 ghost use Rattle.bounds.specs.Instants.{First};
+ghost use Rattle.findings.specs.Asking.{most-above};
 ghost use Rattle.findings.specs.Demand.{load, rests};
 ghost use Rattle.findings.specs.Findings.{tells, finding, Says};
 ghost use Rattle.findings.specs.Fitting.{Fit, Once-then-on};
@@ -17,7 +18,7 @@ use rows::Row;
 // The first rest after `low`, where `high` is a rest and so is every instant from the first one
 // to `high`.
 fn bisect<B: Bound>(bound: &B, frame: u32, own: u32, above: &[Row], low: u32, high: u32) -> u32
-    requires fit { ⌜ Fit frame (now above) ⌝ }
+    requires fit { ⌜ Fit most-above frame (now above) ⌝ }
     requires before { ⌜ low < high ⌝ }
     requires near { ⌜ high ≤ horizon ⌝ }
     requires rests { ⌜ rests (load (meaning (now bound)) frame own (now above)) high ≡ true ⌝ }
@@ -41,7 +42,7 @@ fn bisect<B: Bound>(bound: &B, frame: u32, own: u32, above: &[Row], low: u32, hi
 // point to test point; at the first at which the row rests, the first rest lies between the point
 // before and it.
 pub(crate) fn search<B: Bound>(bound: &B, frame: u32, own: u32, above: &[Row], last: u32) -> Finding
-    requires fit { ⌜ Fit frame (now above) ⌝ }
+    requires fit { ⌜ Fit most-above frame (now above) ⌝ }
     requires busy { ⌜ 1 ≤ own ⌝ }
     requires some { ⌜ 1 ≤ last ⌝ }
     requires near { ⌜ last ≤ horizon ⌝ }

@@ -2,6 +2,7 @@
 use Prim.Native.Nat.{ℕ, _+_, _-_, _*_, _/_, _%_, _<_, _≤_, min}
 use mathlib.Core.Path.{_≡_, sym, ap, _∙_}
 use mathlib.Core.Logic.{⊎-elim}
+use native.Mathlib.Nat.{lt-of-mul-lt-mul-right}
 use native.Mathlib.Omega.{arith}
 use Rattle.std.proofs.shelf.Bits.{div-mul-add, div-add-mod', mod-below}
 use Rattle.std.proofs.shelf.Tests.{cases-lt}
@@ -21,6 +22,12 @@ ceiling-covers a b some = omega (arith, div-add-mod' (a + (b - 1)) b, mod-below 
 
 pub ceiling-tight : (a b : ℕ) → 0 < b → ceiling a b * b < a + b
 ceiling-tight a b some = omega (arith, div-add-mod' (a + (b - 1)) b)
+
+-- it never falls
+pub ceiling-grows : (a c b : ℕ) → 0 < b → a ≤ c → ceiling a b ≤ ceiling c b
+ceiling-grows a c b some order =
+    let more = lt-of-mul-lt-mul-right b {m = ceiling a b} {n = ceiling c b + 1} (omega (arith, ceiling-tight a b some, ceiling-covers c b some)) in
+    omega arith
 
 -- the quotient, and one more where something is left over
 pub ceiling-by-quotient : (a b : ℕ) → 0 < b → a / b + min 1 (a % b) ≡ ceiling a b

@@ -1,4 +1,4 @@
--- What is known of a value that comes through checks.
+-- What is known of a value that comes through checks, and of one that does not.
 use Prim.Native.Nat.{ℕ}
 use mathlib.Core.Bool.{Bool, true, false, cond}
 use mathlib.Core.List.{List, [], _∷_}
@@ -6,33 +6,32 @@ use mathlib.Core.Path.{_≡_, refl}
 use native.Mathlib.Omega.{arith}
 use Rattle.rows.specs.Answers.{Answer, gives, refuses, Check, checked}
 
--- an answer gives or refuses, and not both
-pub gives-not-refuses : {A B : Type 0} (x : A) (n at : ℕ) → _≡_ {A = Answer A} (gives x) (refuses n at) → B
-gives-not-refuses x n at same = absurd (let z : _≡_ {A = ℕ} 0 1 = cc in let w : ⊥ = omega arith in w)
+-- where a value is given, the first check found nothing wrong, and the others give it
+pub first-passes : {A : Type 0} (wrong : Bool) (refusal at : ℕ) (x : A) (rest : Answer A) → gives x ≡ cond wrong (refuses refusal at) rest → (wrong ≡ false) × (gives x ≡ rest)
+first-passes true refusal at x rest given = absurd (let z : _≡_ {A = ℕ} 0 1 = cc in omega arith)
+first-passes false refusal at x rest given = (refl, given)
 
--- a value that comes through checks is the one that was checked
-pub checked-gives : {A : Type 0} (cs : List Check) (x y : A) → gives y ≡ checked cs x → y ≡ x
-checked-gives [] x y same = cc
-checked-gives (c ∷ cs) x y same = at (c .wrong) same (checked-gives cs x y)
-  where
-    at : (b : Bool) → gives y ≡ cond b (refuses (c .refusal) (c .at)) (checked cs x) → (gives y ≡ checked cs x → y ≡ x) → y ≡ x
-    at true same later = gives-not-refuses y (c .refusal) (c .at) same
-    at false same later = later same
+-- where a value is given, it is the one that was to be given
+pub given-is : {A : Type 0} (cs : List Check) (x y : A) → gives x ≡ checked cs y → x ≡ y
+given-is [] x y given = cc
+given-is (c ∷ cs) x y given = given-is cs x y (first-passes (c .wrong) (c .refusal) (c .at) x (checked cs y) given .1)
 
--- where one value comes through, every value does
-pub checked-passes : {A B : Type 0} (cs : List Check) (x y : A) (z : B) → gives y ≡ checked cs x → gives z ≡ checked cs z
-checked-passes [] x y z same = refl
-checked-passes (c ∷ cs) x y z same = at (c .wrong) same (checked-passes cs x y z)
-  where
-    at : (b : Bool) → gives y ≡ cond b (refuses (c .refusal) (c .at)) (checked cs x) → (gives y ≡ checked cs x → gives z ≡ checked cs z) → gives z ≡ cond b (refuses (c .refusal) (c .at)) (checked cs z)
-    at true same later = gives-not-refuses y (c .refusal) (c .at) same
-    at false same later = later same
+-- and any other would have been given too
+pub gives-any : {A B : Type 0} (cs : List Check) (x y : A) → gives x ≡ checked cs y → (z : B) → gives z ≡ checked cs z
+gives-any [] x y given z = refl
+gives-any (c ∷ cs) x y given z =
+    let first = first-passes (c .wrong) (c .refusal) (c .at) x (checked cs y) given in
+    rw (first .0) (gives-any cs x y (first .1) z)
 
--- where one value is refused, every value is, in the same way
-pub checked-refuses : {A B : Type 0} (cs : List Check) (x : A) (z : B) (n at : ℕ) → refuses n at ≡ checked cs x → refuses n at ≡ checked cs z
-checked-refuses [] x z n at same = gives-not-refuses x n at (cc)
-checked-refuses (c ∷ cs) x z n at same = by (c .wrong) same (checked-refuses cs x z n at)
+-- what is refused is refused whatever was to be given
+pub refuses-any : {A B : Type 0} (cs : List Check) (n at : ℕ) (y : A) → refuses n at ≡ checked cs y → (z : B) → refuses n at ≡ checked cs z
+refuses-any [] n at y refused z = absurd (let w : _≡_ {A = ℕ} 0 1 = cc in omega arith)
+refuses-any (c ∷ cs) n at y refused z = by (c .wrong) refused (λ more. refuses-any cs n at y more z)
   where
-    by : (b : Bool) → refuses n at ≡ cond b (refuses (c .refusal) (c .at)) (checked cs x) → (refuses n at ≡ checked cs x → refuses n at ≡ checked cs z) → refuses n at ≡ cond b (refuses (c .refusal) (c .at)) (checked cs z)
-    by true same later = cc
-    by false same later = later same
+    by : (b : Bool) → refuses n at ≡ cond b (refuses (c .refusal) (c .at)) (checked cs y) → (refuses n at ≡ checked cs y → refuses n at ≡ checked cs z) → refuses n at ≡ cond b (refuses (c .refusal) (c .at)) (checked cs z)
+    by true here later = cc
+    by false here later = later here
+
+-- no question is both answered and refused
+pub answered-once : {A B : Type 0} (cs : List Check) (x y : A) (n at : ℕ) (z : B) → gives x ≡ checked cs y → refuses n at ≡ checked cs z → ⊥
+answered-once cs x y n at z given refused = let same = gives-any cs x y given z in let w : _≡_ {A = ℕ} 0 1 = cc in omega arith

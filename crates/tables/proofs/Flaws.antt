@@ -16,7 +16,7 @@ use Rattle.rows.specs.Answers.{Answer, gives, refuses, Check, checked}
 use Rattle.rows.specs.Judging.{Flaw, flaw-checks, frame-flaws, plain, rows-of}
 use Rattle.rows.specs.Counting.{on-frame}
 use Rattle.rows.specs.Times.{is-frame, most-rows}
-use Rattle.rows.proofs.Checks.{gives-not-refuses, checked-gives}
+use Rattle.rows.proofs.Checks.{first-passes, given-is}
 use Rattle.rows.proofs.SameRow.{rows-of-plain}
 use Rattle.findings.specs.Asking.{standing, table-checks}
 use Rattle.findings.proofs.Standing.{all-from-leading, leading-from-all}
@@ -136,7 +136,7 @@ pub rows-more : (h : ℕ) (table : List Numbers) (rows : List Row) (i : ℕ) (d 
     → gives (plain r) ≡ checked (flaw-checks (frame-flaws h) (getD table i d) (i + 1)) (getD table i d)
     → map plain (take i rows) ≡ take i table → map plain (take (i + 1) (set rows i r)) ≡ take (i + 1) table
 rows-more h table rows i d r within room here before =
-    let row = checked-gives (flaw-checks (frame-flaws h) (getD table i d) (i + 1)) (getD table i d) (plain r) here in
+    let row = given-is (flaw-checks (frame-flaws h) (getD table i d) (i + 1)) (plain r) (getD table i d) here in
     ap (map plain) (take-more-set rows i r room) ∙ map-push plain (take i rows) r ∙ ap₂ (λ xs x. xs ++ x ∷ []) before row ∙ sym (take-more table i d within)
 
 -- rows put down for a whole table, of which the part of the table's length is taken
@@ -155,12 +155,9 @@ module _ (table : List Numbers) (rows : List Row) (are : map plain (take (length
 no-flaw : (fs : List Flaw) (table : List Numbers) → gives tt ≡ checked {A = Unit {0}} (flaws-in fs table) tt → All (λ f. All (λ n. not (f .wrong n) ≡ true) table) fs
 unfolding flaws-in
 no-flaw [] table passes = tt
-no-flaw (f ∷ fs) table passes = at (ltb (free f table) (length table)) refl passes (no-flaw fs table)
-  where
-    at : (b : Bool) → ltb (free f table) (length table) ≡ b → gives tt ≡ cond b (refuses (f .refusal) (free f table + 1)) (checked {A = Unit {0}} (flaws-in fs table) tt)
-        → (gives tt ≡ checked {A = Unit {0}} (flaws-in fs table) tt → All (λ g. All (λ n. not (g .wrong n) ≡ true) table) fs) → All (λ g. All (λ n. not (g .wrong n) ≡ true) table) (f ∷ fs)
-    at true _ passes later = gives-not-refuses tt (f .refusal) (free f table + 1) passes
-    at false none passes later = (all-from-leading (λ n. not (f .wrong n)) table (ltb-false (free f table) (length table) none), later passes)
+no-flaw (f ∷ fs) table passes =
+    let first = first-passes (ltb (free f table) (length table)) (f .refusal) (free f table + 1) tt (checked (flaws-in fs table) tt) passes in
+    (all-from-leading (λ n. not (f .wrong n)) table (ltb-false (free f table) (length table) (first .0)), no-flaw fs table (first .1))
 
 -- rows whose numbers are on the frame stand on it
 on-all : (h : ℕ) (rows : List Row) → All (λ n. not (not (eqb (h % n .period) 0)) ≡ true) (map plain rows) → All (λ r. on-frame h r ≡ true) rows
@@ -169,13 +166,13 @@ on-all h (r ∷ rows) all = (not-false (on-frame h r) (not-true _ (all .0)), on-
 
 -- rows made of a table that comes through its checks come through those of a count into a list
 pub count-passes : (h : ℕ) (table : List Numbers) (rows : List Row) (places : ℕ) → is-frame h ≡ true → length table ≤ most-rows → length table ≤ places → map plain rows ≡ table
-    → gives tt ≡ judged h table → checked {A = Unit {0}} (table-checks h rows places) tt ≡ gives tt
+    → gives tt ≡ judged h table → gives tt ≡ checked {A = Unit {0}} (table-checks h rows places) tt
 count-passes h table rows places frame few room are passes =
     let count : length table ≡ length rows = sym (ap length are) ∙ length-map rows plain in
     let flawless = no-flaw (frame-flaws h) table passes .1 .1 .1 .1 .0 in
     let on = leading-from-all (on-frame h) rows (on-all h rows (subst (All (λ n. not (not (eqb (h % n .period) 0)) ≡ true)) (sym are) flawless)) in
-    cond-false _ _ _ (not-from-true (is-frame h) frame) ∙ cond-false _ _ _ (le-ltb most-rows (length rows) (omega arith)) ∙ cond-false _ _ _ (le-ltb places (length rows) (omega arith))
-    ∙ cond-false _ _ _ (le-ltb (standing h rows) (length rows) on)
+    sym (cond-false _ _ _ (not-from-true (is-frame h) frame) ∙ cond-false _ _ _ (le-ltb most-rows (length rows) (omega arith)) ∙ cond-false _ _ _ (le-ltb places (length rows) (omega arith))
+    ∙ cond-false _ _ _ (le-ltb (standing h rows) (length rows) on))
 
 -- once the frame, the number of rows and the places are right, only flaws are left to check
 pub only-flaws : {A : Type 0} (h : ℕ) (table : List Numbers) (places : ℕ) (x : A) → is-frame h ≡ true → length table ≤ most-rows → length table ≤ places

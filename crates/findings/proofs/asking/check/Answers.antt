@@ -7,5 +7,5 @@ use Rattle.findings.proofs.asking.check.Needs as need
 pub returns : need.returns
 returns c = record {
   checked = search needs;
-  fit = record { frame = search needs; few = search needs; on = all-from-leading (on-frame (c .args .frame)) (c .args .above .now) (omega arith) };
+  fit = record { stands = record { frame = search needs; on = all-from-leading (on-frame (c .args .frame)) (c .args .above .now) (omega arith) }; few = search needs };
 }

@@ -13,7 +13,7 @@ returns c =
     let row = c .args .row .now in
     let above = c .args .above .now in
     let told = tells (c .search-finding .result) in
-    let some = frame-low (c .args .frame) (c .in-Continue-check .ensures tt .fit .frame) in
+    let some = frame-low (c .args .frame) (c .in-Continue-check .ensures tt .fit .stands .frame) in
     let first = c .response-bound .ensures ∙ ap (λ f. mapped (λ t. t + row .jitter) (f .rest)) (found-at-window (c .args .frame) row above told (c .window .result) (c .window .ensures) (c .search-finding .ensures .found)) in
     let same : c .response-bound .result ≡ response row above = first ∙ response-is (c .args .frame) row above some in
     record { responds = search needs; first = first; fixed = subst (Responds row above) (sym same) (responds row above) }

@@ -14,7 +14,7 @@ one-more : (g : given.Over) (c : need.After-amount-demand g) → c .loop-row .de
     ≡ demand (load (g .B·Bound .meaning (c .args .bound .now)) (c .args .frame) (c .args .own) (take (c .loop-row .row-index + 1) (c .args .above .now))) (c .args .at)
 one-more g c =
     let m = g .B·Bound .meaning (c .args .bound .now) in
-    let asks = asked-above (c .args .frame) (c .args .above .now) (c .pre .fit) (c .loop-row .row-index) (c .row-item .result) (c .args .at) (c .loop-row-test .taken) (c .row-item .is) (c .pre .near) in
+    let asks = asked-above (c .args .frame) (c .args .above .now) (c .pre .fit .stands) (c .loop-row .row-index) (c .row-item .result) (c .args .at) (c .loop-row-test .taken) (c .row-item .is) (c .pre .near) in
     ap (λ x. x + c .amount-demand .result) (c .loop-row .inv .1)
     ∙ demand-more m (c .args .frame) (c .args .own) (c .args .above .now) (c .loop-row .row-index) (c .row-item .result) (c .args .at) (c .amount-demand .result) (c .loop-row-test .taken) (c .row-item .is) asks (c .amount-demand .ensures)
 
@@ -25,7 +25,7 @@ add-demand g c =
     let l = load m (c .args .frame) (c .args .own) (c .args .above .now) in
     let more = one-more g c in
     let part = demand-so-far m (c .args .frame) (c .args .own) (c .args .above .now) (c .loop-row .row-index + 1) (c .args .at) in
-    omega (arith, demand-small l laws (c .pre .fit) (c .args .at) (c .pre .near) (omega (arith, c .fits .own .fits)))
+    omega (arith, demand-small l laws (c .pre .fit .stands) (c .args .at) (c .pre .fit .few) (c .pre .near) (omega (arith, c .fits .own .fits)))
 
 pub loop-row-again : need.loop-row-again
 loop-row-again g c = (omega (arith, c .loop-row-test .taken), one-more g c)

@@ -14,7 +14,7 @@ use Rattle.findings.proofs.demands.next_point.Needs.{in-Some, in-rest}
 pub loop-row-again : need.loop-row-again
 loop-row-again g c =
     let m = g .B·Bound .meaning (c .args .bound .now) in
-    let asks = asked-above (c .args .frame) (c .args .above .now) (c .pre .fit) (c .loop-row .row-index) (c .row-item .result) (c .args .after) (c .loop-row-test .taken) (c .row-item .is) (omega arith) in
+    let asks = asked-above (c .args .frame) (c .args .above .now) (c .pre .fit .stands) (c .loop-row .row-index) (c .row-item .result) (c .args .after) (c .loop-row-test .taken) (c .row-item .is) (omega arith) in
     let more =
     nearest-more m (c .args .frame) (c .args .last) (c .args .above .now) (c .loop-row .row-index) (c .row-item .result) (c .loop-row-test .taken) (c .row-item .is) (c .args .after) (c .loop-row .next)
     (c .pre .before) (c .pre .near) (c .loop-row .inv .1) asks (c .next-corner .result) (c .next-corner .ensures) in

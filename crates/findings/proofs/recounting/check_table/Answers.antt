@@ -7,6 +7,6 @@ use Rattle.findings.proofs.recounting.check_table.Needs as need
 pub returns : need.returns
 returns c = record {
   checked = search needs;
-  fit = record { frame = search needs; few = search needs; on = all-from-leading (on-frame (c .args .frame)) (c .args .rows .now) (omega arith) };
+  fit = record { stands = record { frame = search needs; on = all-from-leading (on-frame (c .args .frame)) (c .args .rows .now) (omega arith) }; few = search needs };
   room = search needs;
 }

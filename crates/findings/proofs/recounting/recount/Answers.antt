@@ -6,5 +6,5 @@ pub returns : need.returns
 returns g c = record {
   answered = search needs;
   filled = c .fill .ensures;
-  says = table-says _ (c .args .frame) (c .args .rows .now) (g .B·Bound·met .lawful (c .args .bound .now)) (c .in-Continue-check-table .ensures tt .fit);
+  says = table-says _ (c .args .frame) (c .args .rows .now) (g .B·Bound·met .lawful (c .args .bound .now)) (c .in-Continue-check-table .ensures tt .fit .stands);
 }

@@ -7,7 +7,7 @@ use Rattle.findings.proofs.Walk.{Passed, start, turns-once, pass, meets, misse
 use Rattle.findings.proofs.searching.search.Needs as need
 
 pub loop-before-holds : need.loop-before-holds
-loop-before-holds g c = start _ (c .args .last) (g .B·Bound·met .lawful (c .args .bound .now)) (c .pre .fit) (c .pre .busy)
+loop-before-holds g c = start _ (c .args .last) (g .B·Bound·met .lawful (c .args .bound .now)) (c .pre .fit .stands) (c .pre .busy)
 
 pub add-points : need.add-points
 add-points g c =
@@ -20,17 +20,17 @@ bisect-rest-requires g c κs = record {
   before = c .next-point-point .ensures .after;
   near = omega (arith, c .next-point-point .ensures .within);
   rests = sym (c .if-is-rest .ensures tt);
-  on = turns-once _ _ (g .B·Bound·met .lawful (c .args .bound .now)) (c .pre .fit) (c .pre .near) _ _ _ (c .loop-before .inv) (c .next-point-point .ensures);
+  on = turns-once _ _ (g .B·Bound·met .lawful (c .args .bound .now)) (c .pre .fit .stands) (c .pre .near) _ _ _ (c .loop-before .inv) (c .next-point-point .ensures);
 }
 
 pub returns-then-is-rest : need.returns-then-is-rest
 returns-then-is-rest g c =
     let found = meets _ _ _ _ _ _ (c .loop-before .inv) (c .next-point-point .ensures) (sym (c .if-is-rest .ensures tt)) (c .bisect-rest .ensures) in
-    record { found = found; says = subst (Says _ _) (sym found) (finding-says _ _ (g .B·Bound·met .lawful (c .args .bound .now)) (c .pre .fit) (c .pre .busy) (c .pre .near)) }
+    record { found = found; says = subst (Says _ _) (sym found) (finding-says _ _ (g .B·Bound·met .lawful (c .args .bound .now)) (c .pre .fit .stands) (c .pre .busy) (c .pre .near)) }
 
 pub loop-before-again : need.loop-before-again
 loop-before-again g c =
-    pass _ _ (g .B·Bound·met .lawful (c .args .bound .now)) (c .pre .fit) (c .pre .near) _ _ _ (c .loop-before .inv) (c .next-point-point .ensures) (sym (c .if-is-rest .ensures tt))
+    pass _ _ (g .B·Bound·met .lawful (c .args .bound .now)) (c .pre .fit .stands) (c .pre .near) _ _ _ (c .loop-before .inv) (c .next-point-point .ensures) (sym (c .if-is-rest .ensures tt))
 
 pub returns : need.returns
 returns g c =
@@ -38,4 +38,4 @@ returns g c =
     let e : c .loop-before .before ≡ c .args .last = omega (arith, c .loop-before .inv .within) in
     let passed = subst (λ t. Passed l (c .args .last) t (c .loop-before .points)) e (c .loop-before .inv) in
     let found = misses _ _ _ passed in
-    record { found = found; says = subst (Says l (c .args .last)) (sym found) (finding-says _ _ (g .B·Bound·met .lawful (c .args .bound .now)) (c .pre .fit) (c .pre .busy) (c .pre .near)) }
+    record { found = found; says = subst (Says l (c .args .last)) (sym found) (finding-says _ _ (g .B·Bound·met .lawful (c .args .bound .now)) (c .pre .fit .stands) (c .pre .busy) (c .pre .near)) }

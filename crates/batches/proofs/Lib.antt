@@ -1,0 +1,2 @@
+pub mod JobsCounted
+pub mod BatchLaws

@@ -1,0 +1,2 @@
+pub mod Bracketing
+pub mod Counting
