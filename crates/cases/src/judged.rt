@@ -42,6 +42,32 @@ fn refusals_of_numbers() -> Result<(), Fail> {
     )
 }
 
+// The numbers of the row that four numbers make on a frame of 12, judged for position 7.
+fn judged_on_12(four: Numbers) -> Result<Numbers, Fault> {
+    Ok(four.judge_on(12, 7)?.numbers())
+}
+
+#[test]
+fn rows_on_a_frame() -> Result<(), Fail> {
+    check_eq(judged_on_12(numbers(4, 6, 6, 2))?, numbers(4, 6, 6, 2))?;
+    check_eq(
+        judged_on_12(numbers(1, 5, 5, 0)),
+        Err(Refusal::OffFrame.at(7)),
+    )?;
+    check_eq(
+        judged_on_12(numbers(1, 24, 24, 0)),
+        Err(Refusal::OffFrame.at(7)),
+    )?;
+    check_eq(
+        judged_on_12(numbers(0, 0, 0, 0)),
+        Err(Refusal::IdleRow.at(7)),
+    )?;
+    check_eq(
+        judged_on_12(numbers(1, 1, HORIZON + 1, 0)),
+        Err(Refusal::LongPeriod.at(7)),
+    )
+}
+
 #[test]
 fn the_first_thing_wrong_is_told() -> Result<(), Fail> {
     check_eq(judged(numbers(0, 0, 0, 9)), Err(Refusal::IdleRow.at(7)))?;

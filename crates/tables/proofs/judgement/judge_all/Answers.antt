@@ -32,8 +32,8 @@ loop-i-again c =
         omega (arith, within),
         ap (answer (λ u. u)) (w .verdict-is) ∙ judged-more (c .args .frame) table i _ _ _ within (c .loop-i .inv .1) (w .in-Ok .ensures tt),
         subst (λ v. made v (λ _. Rows-are (i + 1) table (c .match-judge-on .rows))) (sym (w .verdict-is)) (made-weaker (c .loop-i .verdict) (λ _. Rows-are i table (c .loop-i .rows)) (λ _. Rows-are (i + 1) table (c .match-judge-on .rows))
-        (λ _ before. ap (λ rows. map plain (take (i + 1) rows)) (w .rows-is) ∙ rows-more (c .args .frame) table (c .loop-i .rows) i _ (w .in-Ok .row) within (omega (arith, within, c .pre .room, c .loop-i .kept .rows)) (w .in-Ok .ensures tt) before)
-        (c .loop-i .inv .2)),
+            (λ _ before. ap (λ rows. map plain (take (i + 1) rows)) (w .rows-is) ∙ rows-more (c .args .frame) table (c .loop-i .rows) i _ (w .in-Ok .row) within (omega (arith, within, c .pre .room, c .loop-i .kept .rows)) (w .in-Ok .ensures tt) before)
+            (c .loop-i .inv .2)),
       )
       | in-Err w ↦ (
         omega (arith, within),
