@@ -1,7 +1,7 @@
 -- When a question about a row below others is refused.
 use Prim.Native.Nat.{ℕ, _+_, _-_}
 use mathlib.Core.Bool.{not}
-use mathlib.Core.List.{List, [], _∷_}
+use mathlib.Core.List.{List, [], _∷_, _++_}
 use lib.Dec.{ltb}
 use lib.ListN.{length}
 use Rattle.std.specs.shelf.Lists.{leading}
@@ -28,12 +28,15 @@ checks h r above =
     ∷ check (not (on-frame h r)) 8 (length above + 1)
     ∷ []
 
--- what is checked before the findings of a table are put into a list of so many places, in order:
--- bad frame; full table; short list; off frame with the smallest rank concerned
-abbrev pub table-checks : ℕ → List Row → ℕ → List Check
-table-checks h rows places =
+-- what is checked of the size of a table whose findings are to be put into a list of so many places, in
+-- order: bad frame; full table; short list
+abbrev pub size-checks : ℕ → ℕ → ℕ → List Check
+size-checks h rows places =
     check (not (is-frame h)) 1 0
-    ∷ check (ltb most-rows (length rows)) 9 0
-    ∷ check (ltb places (length rows)) 12 0
-    ∷ check (ltb (standing h rows) (length rows)) 8 (standing h rows + 1)
+    ∷ check (ltb most-rows rows) 9 0
+    ∷ check (ltb places rows) 12 0
     ∷ []
+
+-- what is checked of the rows of such a table: its size; then off frame with the smallest rank concerned
+abbrev pub table-checks : ℕ → List Row → ℕ → List Check
+table-checks h rows places = size-checks h (length rows) places ++ check (ltb (standing h rows) (length rows)) 8 (standing h rows + 1) ∷ []

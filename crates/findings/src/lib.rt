@@ -7,6 +7,7 @@ mod verdicts;
 
 pub use asking::find;
 pub use asking::response_time;
+pub use recounting::check_size;
 pub use recounting::recount;
 pub use verdicts::Finding;
 pub use verdicts::FindingDebug;

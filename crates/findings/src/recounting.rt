@@ -8,10 +8,10 @@ ghost use Rattle.std.specs.Vec.{made};
 ghost use Rattle.rows.specs.Answers.{answer, checked};
 ghost use Rattle.rows.specs.Lists.{written};
 ghost use Rattle.rows.specs.Times.{most-rows};
-ghost use Rattle.findings.specs.Asking.{table-checks};
+ghost use Rattle.findings.specs.Asking.{size-checks, table-checks};
 ghost use Rattle.findings.specs.Findings.{tells};
 ghost use Rattle.findings.specs.Tables.{findings-of, Table-says};
-ghost use Rattle.findings.specs.Fitting.{Fit};
+ghost use Rattle.findings.specs.Fitting.{Fit, Sized};
 use crate::asking::standing;
 use crate::searching::search;
 use crate::verdicts::Finding;
@@ -22,21 +22,30 @@ use rows::Refusal;
 use rows::Row;
 use rows::is_frame;
 
-// What is checked before a table is counted into a list of so many places.
+// Whether a table of so many rows on the frame can be counted into a list of so many places.
+pub fn check_size(frame: u32, rows: usize, places: usize) -> Result<(), Fault>
+    ensures checked { λ r. ⌜ answer (λ u. u) r ≡ checked (size-checks frame rows places) tt ⌝ }
+    ensures sized { λ r. ⌜ made r (λ _. Sized frame rows places) ⌝ }
+{
+    if !is_frame(frame) {
+        return Err(Refusal::BadFrame.at(0));
+    }
+    if rows > MOST_ROWS {
+        return Err(Refusal::FullTable.at(0));
+    }
+    if places < rows {
+        return Err(Refusal::ShortList.at(0));
+    }
+    Ok(())
+}
+
+// What is checked of rows before they are counted into a list of so many places.
 fn check_table(frame: u32, rows: &[Row], places: usize) -> Result<(), Fault>
     ensures checked { λ r. ⌜ answer (λ u. u) r ≡ checked (table-checks frame (now (rows .entry)) places) tt ⌝ }
     ensures fit { λ r. ⌜ made r (λ _. Fit most-rows frame (now (rows .entry))) ⌝ }
     ensures room { λ r. ⌜ made r (λ _. length (now (rows .entry)) ≤ places) ⌝ }
 {
-    if !is_frame(frame) {
-        return Err(Refusal::BadFrame.at(0));
-    }
-    if rows.len() > MOST_ROWS {
-        return Err(Refusal::FullTable.at(0));
-    }
-    if places < rows.len() {
-        return Err(Refusal::ShortList.at(0));
-    }
+    check_size(frame, rows.len(), places)?;
     let on = standing(frame, rows);
     if on < rows.len() {
         return Err(Refusal::OffFrame.at(on as u32 + 1));

@@ -1,1 +1,3 @@
-pub mod Flaws
+pub mod Graver
+pub mod Judged
+pub mod Passing

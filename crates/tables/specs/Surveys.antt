@@ -1,14 +1,14 @@
 -- The survey of a whole table of numbers that nobody has judged yet.
 use Prim.Native.Nat.{ℕ, _+_}
 use mathlib.Core.Bool.{cond, not}
-use mathlib.Core.List.{List, [], _∷_, _++_, map}
+use mathlib.Core.List.{List, _++_, map}
 use lib.Dec.{leb, ltb}
 use lib.ListN.{length}
 use Rattle.std.specs.shelf.Lists.{leading}
 use Rattle.rows.specs.declared.tasks.Numbers.{Numbers}
 use Rattle.rows.specs.Answers.{Answer, gives, refuses, Check, check, checked}
 use Rattle.rows.specs.Judging.{Flaw, frame-flaws}
-use Rattle.rows.specs.Times.{is-frame, most-rows}
+use Rattle.findings.specs.Asking.{size-checks}
 
 -- how many places of a table, from the top, are free of a flaw
 abbrev pub free : Flaw → List Numbers → ℕ
@@ -30,11 +30,7 @@ graver first (gives x) = first
 graver (gives y) (refuses number at) = refuses number at
 graver (refuses n p) (refuses number at) = cond (leb n number) (refuses n p) (refuses number at)
 
--- what is checked of a survey that is to fill a list of so many places, in order: bad frame; full
--- table; short list; then idle row, no window, late deadline, long period and off frame, with ranks
+-- what is checked of a survey that is to fill a list of so many places, in order: bad frame, full table
+-- and short list; then idle row, no window, late deadline, long period and off frame, with ranks
 abbrev pub survey-checks : ℕ → List Numbers → ℕ → List Check
-survey-checks h table places =
-    check (not (is-frame h)) 1 0
-    ∷ check (ltb most-rows (length table)) 9 0
-    ∷ check (ltb places (length table)) 12 0
-    ∷ flaws-in (frame-flaws h) table
+survey-checks h table places = size-checks h (length table) places ++ flaws-in (frame-flaws h) table

@@ -13,13 +13,12 @@ ghost use Rattle.tables.specs.Surveys.{survey-checks};
 use crate::judgement::judge_all;
 use bounds::Bound;
 use findings::Finding;
+use findings::check_size;
 use findings::recount;
 use rows::Fault;
 use rows::MOST_ROWS;
 use rows::Numbers;
-use rows::Refusal;
 use rows::Row;
-use rows::is_frame;
 
 // Judges every place of a table and puts the findings of its rows into the list, in rank order;
 // the places past the last row stay. Answers how many there are. A refusal leaves the list.
@@ -34,15 +33,7 @@ pub fn survey<B: Bound>(
     ensures rows { λ r. ⌜ made r (λ _. map plain (rows-of (now (table .entry))) ≡ now (table .entry)) ⌝ }
     ensures says { λ r. ⌜ made r (λ _. Table-says (meaning (now (bound .entry))) frame (rows-of (now (table .entry)))) ⌝ }
 {
-    if !is_frame(frame) {
-        return Err(Refusal::BadFrame.at(0));
-    }
-    if table.len() > MOST_ROWS {
-        return Err(Refusal::FullTable.at(0));
-    }
-    if list.len() < table.len() {
-        return Err(Refusal::ShortList.at(0));
-    }
+    check_size(frame, table.len(), list.len())?;
     let unused = Row {
         work: 1,
         deadline: 1,
