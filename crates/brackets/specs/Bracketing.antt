@@ -30,18 +30,19 @@ slow-rests k r above t = leb ((k + 1) * exact-demand r above t) (k * t)
 unfoldable pub slow-rest : ℕ → Row → List Row → Option ℕ
 slow-rest k r above = least (slow-rests k r above) (window r) 1
 
--- the first rest of a row by a bound of accuracy k lies between its first rests in exact steps at full speed and at speed k / (k + 1)
-pub record Bracketed (m : Meaning) (h : ℕ) (r : Row) (above : List Row) : Type 0 where
+-- a first rest of a row by a bound of accuracy k, or none, lies between those in exact steps at full
+-- speed and at speed k / (k + 1)
+pub record Between (k : ℕ) (r : Row) (above : List Row) (bounded : Option ℕ) : Type 0 where
   -- a row that meets by the bound meets in exact steps, and its exact first rest is no later
-  pub exact : No-later (exact-rest r above) (row-finding m h r above .rest)
+  pub exact : No-later (exact-rest r above) bounded
   -- where the row has a first rest in exact steps at speed k / (k + 1), it has one by the bound, and that is no later
-  pub slow : No-later (row-finding m h r above .rest) (slow-rest (m .accuracy) r above)
+  pub slow : No-later bounded (slow-rest k r above)
   -- a row that misses by the bound misses at that speed
-  pub misses : row-finding m h r above .rest ≡ None → slow-rest (m .accuracy) r above ≡ None
+  pub misses : bounded ≡ None → slow-rest k r above ≡ None
 
--- every finding by the bound is so bracketed
+-- so does every first rest by the bound, of any row below any others that stand on a frame
 abbrev pub Brackets : Meaning → Type 0
-Brackets m = (h : ℕ) (r : Row) (above : List Row) → Stands h above → Bracketed m h r above
+Brackets m = (h : ℕ) (r : Row) (above : List Row) → Stands h above → Between (m .accuracy) r above (row-finding m h r above .rest)
 
 -- what meets by a linear tail meets by every more accurate one, and rests no later
 abbrev pub Finer-tails : Type 0

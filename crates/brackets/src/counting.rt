@@ -5,7 +5,7 @@ ghost use Rattle.rows.specs.Answers.{answer, checked};
 ghost use Rattle.findings.specs.Asking.{checks};
 ghost use Rattle.findings.specs.Exact.{exact-rest};
 ghost use Rattle.findings.specs.Findings.{told};
-ghost use Rattle.brackets.specs.Bracketing.{Any-order, Brackets, Fewer-above};
+ghost use Rattle.brackets.specs.Bracketing.{Any-order, Between, Brackets, Fewer-above};
 ghost use Rattle.brackets.specs.Counting.{both, gap, row-counted};
 use bounds::Bound;
 use bounds::ExactSteps;
@@ -47,6 +47,7 @@ pub fn count_both<B: Bound>(
 ) -> Result<Counts, Fault>
     ensures counted { λ r. ⌜ answer both r ≡ checked (checks frame (now (row .entry)) (now (above .entry))) (row-counted (meaning (now (bound .entry))) frame (now (row .entry)) (now (above .entry))) ⌝ }
     ensures exactly { λ r. ⌜ made r (λ c. told (c .exact .verdict) ≡ exact-rest (now (row .entry)) (now (above .entry))) ⌝ }
+    ensures between { λ r. ⌜ made r (λ c. Between (meaning (now (bound .entry)) .accuracy) (now (row .entry)) (now (above .entry)) (told (c .bounded .verdict))) ⌝ }
     ensures brackets { λ _. ⌜ Brackets (meaning (now (bound .entry))) ⌝ }
     ensures fewer { λ _. ⌜ Fewer-above (meaning (now (bound .entry))) ⌝ }
     ensures order { λ _. ⌜ Any-order (meaning (now (bound .entry))) ⌝ }

@@ -13,7 +13,8 @@ use Rattle.std.proofs.shelf.Tests.{cond-false, cond-true, le-leb, le-ltb, lt-le
 use Rattle.rows.specs.declared.tasks.Numbers.{Numbers}
 use Rattle.rows.specs.Answers.{Answer, gives, refuses, Check, checked}
 use Rattle.rows.specs.Judging.{Flaw, flaw-checks}
-use Rattle.tables.specs.Surveys.{free, flaws-in, graver}
+use Rattle.tables.specs.Surveys.{free, flaws-in}
+use Rattle.tables.specs.Judgement.{graver}
 
 -- a front that ended early does not grow with one element more
 leading-ended : {X : Type 0} (p : X → Bool) (xs : List X) (x : X) → leading p xs < length xs → leading p (xs ++ x ∷ []) ≡ leading p xs

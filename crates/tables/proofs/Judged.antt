@@ -12,7 +12,8 @@ use Rattle.rows.specs.Answers.{Answer, gives, checked}
 use Rattle.rows.specs.Judging.{flaw-checks, frame-flaws, plain, rows-of}
 use Rattle.rows.proofs.Checks.{given-is}
 use Rattle.rows.proofs.SameRow.{rows-of-plain}
-use Rattle.tables.specs.Surveys.{flaws-in, judged, graver}
+use Rattle.tables.specs.Surveys.{flaws-in}
+use Rattle.tables.specs.Judgement.{graver, judged}
 use Rattle.tables.proofs.Graver.{Ascending, flaws-more}
 
 -- the numbers of what keeps four numbers from being a row on a frame rise

@@ -16,7 +16,8 @@ use Rattle.rows.specs.Judging.{Flaw, frame-flaws, plain}
 use Rattle.rows.proofs.Checks.{first-passes, passed-first}
 use Rattle.findings.specs.Asking.{size-checks, standing, table-checks}
 use Rattle.findings.proofs.Standing.{all-from-leading, leading-from-all}
-use Rattle.tables.specs.Surveys.{free, flaws-in, judged}
+use Rattle.tables.specs.Surveys.{free, flaws-in}
+use Rattle.tables.specs.Judgement.{judged}
 
 -- where a table comes through its checks, no place has any of the flaws
 no-flaw : (fs : List Flaw) (table : List Numbers) → gives tt ≡ checked {A = Unit {0}} (flaws-in fs table) tt → All (λ f. All (λ n. not (f .wrong n) ≡ true) table) fs

@@ -8,7 +8,7 @@ ghost use Rattle.rows.specs.Answers.{answer, refuses};
 ghost use Rattle.rows.specs.Judging.{plain};
 ghost use Rattle.rows.specs.Refusals.{number};
 ghost use Rattle.rows.specs.Times.{most-rows};
-ghost use Rattle.tables.specs.Surveys.{graver, judged};
+ghost use Rattle.tables.specs.Judgement.{graver, judged};
 use rows::Fault;
 use rows::Numbers;
 use rows::Row;

@@ -9,6 +9,7 @@ use Rattle.std.proofs.shelf.Tests.{and-parts, and-right, cases-lt, cases-order,
 use Rattle.bounds.specs.Instants.{least, count}
 use Rattle.bounds.specs.Supplied.{rises, before-tail, linear-tail}
 use Rattle.findings.specs.Findings.{first-rest, stop, points}
+use Rattle.brackets.specs.Bracketing.{slow-rest}
 use Rattle.worked.specs.Table.{Worked, row-b}
 
 -- two tests agree on the numbers below n
@@ -38,7 +39,7 @@ corners-of-b t =
     (cases-lt t 12)
 
 pub worked : Worked
-unfolding least count first-rest stop points
+unfolding least count first-rest stop points slow-rest
 worked = record {
   exact-a = refl;
   exact-b = refl;
@@ -47,6 +48,10 @@ worked = record {
   tail-1-e = refl;
   tail-2-e = refl;
   tail-3-e = refl;
+  table-exact = refl;
+  table-tail-3 = refl;
+  slow-b = refl;
+  slow-e = refl;
   steps-at-5 = refl;
   steps-at-6 = refl;
   parts-at-5 = refl;

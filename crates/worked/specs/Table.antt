@@ -10,6 +10,8 @@ use Rattle.rows.specs.Counting.{steps}
 use Rattle.bounds.specs.Meaning.{Meaning}
 use Rattle.bounds.specs.Supplied.{exact-steps, linear-tail}
 use Rattle.findings.specs.Findings.{Found, row-finding}
+use Rattle.findings.specs.Tables.{findings-of}
+use Rattle.brackets.specs.Bracketing.{slow-rest}
 
 -- the rows, by work, deadline, period and jitter
 abbrev pub row-a : Row
@@ -41,6 +43,12 @@ pub record Worked : Type 0 where
   pub tail-1-e : found (linear-tail 1) row-e (row-a ∷ row-b ∷ []) ≡ misses 1
   pub tail-2-e : found (linear-tail 2) row-e (row-a ∷ row-b ∷ []) ≡ misses 3
   pub tail-3-e : found (linear-tail 3) row-e (row-a ∷ row-b ∷ []) ≡ meets 11 4
+  -- the whole table, in exact steps and by the tail of accuracy 3
+  pub table-exact : findings-of exact-steps 12 (row-a ∷ row-b ∷ row-e ∷ []) ≡ meets 1 1 ∷ meets 3 1 ∷ meets 10 4 ∷ []
+  pub table-tail-3 : findings-of (linear-tail 3) 12 (row-a ∷ row-b ∷ row-e ∷ []) ≡ meets 1 1 ∷ meets 3 1 ∷ meets 11 4 ∷ []
+  -- in exact steps at speed 3/4
+  pub slow-b : slow-rest 3 row-b (row-a ∷ []) ≡ Some 4
+  pub slow-e : slow-rest 3 row-e (row-a ∷ row-b ∷ []) ≡ None
   -- the steps of B at 5 and at 6, and its amounts under the tail of accuracy 2
   pub steps-at-5 : steps row-b 5 ≡ 2
   pub steps-at-6 : steps row-b 6 ≡ 4

@@ -2,7 +2,7 @@ use Rattle.std.proofs.shelf.Results.{err-from-errBy}
 use Rattle.rows.proofs.Checks.{answered-once, refuses-any}
 use Rattle.findings.specs.Asking.{checks}
 use Rattle.brackets.proofs.Bracket.{brackets, fewer-above}
-use Rattle.brackets.proofs.Counted.{counted, exactly}
+use Rattle.brackets.proofs.Counted.{counted, exactly, between}
 use Rattle.brackets.proofs.Rearranged.{any-order}
 use Rattle.brackets.proofs.counting.count_both.Needs as need
 
@@ -12,6 +12,7 @@ returns-in-Break-exact g c =
     record {
       counted = rw (err .1, err .2) (refuses-any (checks (c .args .frame) (c .args .row .now) (c .args .above .now)) _ _ _ (c .in-Break-exact .ensures tt .found) _);
       exactly = rw (err .1) tt;
+      between = rw (err .1) tt;
       brackets = brackets (g .B·Bound·met .lawful (c .args .bound .now));
       fewer = fewer-above (g .B·Bound .meaning (c .args .bound .now));
       order = any-order (g .B·Bound .meaning (c .args .bound .now));
@@ -27,6 +28,7 @@ returns g c =
     record {
       counted = counted (c .args .frame) (c .args .row .now) (c .args .above .now) (g .B·Bound .meaning (c .args .bound .now)) _ found (c .in-Continue-bounded .ensures tt .found);
       exactly = exactly (c .args .frame) (c .args .row .now) (c .args .above .now) _ found;
+      between = between (c .args .frame) (c .args .row .now) (c .args .above .now) (g .B·Bound·met .lawful (c .args .bound .now)) _ (c .in-Continue-bounded .ensures tt .found);
       brackets = brackets (g .B·Bound·met .lawful (c .args .bound .now));
       fewer = fewer-above (g .B·Bound .meaning (c .args .bound .now));
       order = any-order (g .B·Bound .meaning (c .args .bound .now));

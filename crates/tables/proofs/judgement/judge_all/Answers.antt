@@ -10,7 +10,7 @@ use Rattle.rows.specs.declared.tasks.Numbers.{Numbers}
 use Rattle.rows.specs.declared.tasks.Row.{Row}
 use Rattle.rows.specs.Answers.{answer}
 use Rattle.rows.specs.Judging.{plain}
-use Rattle.tables.specs.Surveys.{judged}
+use Rattle.tables.specs.Judgement.{judged}
 use Rattle.tables.proofs.Judged.{judged-none, judged-more, rows-more}
 use Rattle.tables.proofs.judgement.judge_all.Needs as need
 use Rattle.tables.proofs.judgement.judge_all.Needs.{in-Ok, in-Err}

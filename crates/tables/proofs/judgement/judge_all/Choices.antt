@@ -5,7 +5,7 @@ use Prim.Native.Nat.{_≤_}
 use Rattle.std.specs.Vec.{made}
 use Rattle.rows.specs.Answers.{answer}
 use Rattle.rows.specs.Judging.{plain}
-use Rattle.tables.specs.Surveys.{judged}
+use Rattle.tables.specs.Judgement.{judged}
 use Rattle.tables.proofs.judgement.judge_all.Given as given
 
 -- so far the verdict on the places seen, and where it is good, their rows
