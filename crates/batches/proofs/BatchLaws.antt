@@ -10,6 +10,7 @@ use Rattle.rows.specs.Times.{horizon}
 use Rattle.rows.specs.Counting.{steps}
 use Rattle.rows.proofs.Ceiling.{ceiling-grows, ceiling-tight}
 use Rattle.bounds.specs.Laws.{Laws}
+use Rattle.bounds.specs.Meaning.{finest}
 use Rattle.bounds.specs.Supplied.{rises}
 use Rattle.bounds.proofs.Instants.{count-le}
 use Rattle.bounds.proofs.Rising.{steps-stay}
@@ -50,7 +51,7 @@ module _ (k g : ℕ) (some : 1 ≤ g) (h : ℕ) (r : Row) where
       rw (jobs-stay r t late rest) (omega arith)
 
 -- jobs counted in batches keep every law of a bound
-pub batch-laws : (k g : ℕ) → 1 ≤ k → k ≤ 64 → 1 ≤ g → Laws (batches k g)
+pub batch-laws : (k g : ℕ) → 1 ≤ k → k ≤ finest → 1 ≤ g → Laws (batches k g)
 batch-laws k g low high some =
     record {
       covers = λ h r t ask. parts-grow h (r .work) _ _ (counted-covers k g some (job-count r t));

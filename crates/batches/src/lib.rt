@@ -4,10 +4,12 @@ ghost use Prim.Native.Nat.{_^_, _<_, _≤_};
 ghost use mathlib.Core.Path.{_≡_};
 ghost use Rattle.rows.specs.Answers.{answer, checked};
 ghost use Rattle.rows.specs.Times.{horizon};
+ghost use Rattle.bounds.specs.Meaning.{finest};
 ghost use Rattle.batches.specs.Batching.{counted, job-count, batches, parameters, batch-checks};
 use bounds::Bound;
 use bounds::ExactSteps;
 use bounds::ExactStepsBound;
+use bounds::FINEST;
 use bounds::asked;
 use rows::Fault;
 use rows::HORIZON;
@@ -21,7 +23,7 @@ pub struct Batches {
     accuracy: u32,
     size: u32,
     ghost low: { 1 ≤ accuracy },
-    ghost high: { accuracy ≤ 64 },
+    ghost high: { accuracy ≤ finest },
     ghost some: { 1 ≤ size },
     ghost near: { size ≤ horizon },
 }
@@ -39,7 +41,7 @@ impl Batches {
     pub fn new(accuracy: u32, size: u32) -> Result<Batches, Fault>
         ensures { λ r. ⌜ answer (λ b. parameters (b .accuracy) (b .size)) r ≡ checked (batch-checks accuracy size) (parameters accuracy size) ⌝ }
     {
-        if accuracy == 0 || accuracy > 64 {
+        if accuracy == 0 || accuracy > FINEST {
             return Err(Refusal::BadAccuracy.at(0));
         }
         if size == 0 || size > HORIZON {

@@ -5,7 +5,7 @@ use mathlib.Core.Path.{_≡_}
 use native.Mathlib.Omega.{arith}
 use lib.Dec.{leb}
 use Rattle.std.proofs.shelf.Bits.{div-add-mod', mul-le}
-use Rattle.std.proofs.shelf.Tests.{and-parts, leb-true, eqb-true}
+use Rattle.std.proofs.shelf.Tests.{and-from, and-parts, le-leb, leb-true, eqb-true}
 use Rattle.rows.specs.declared.tasks.Row.{Row}
 use Rattle.rows.specs.Times.{horizon, is-frame, ceiling}
 use Rattle.rows.specs.Counting.{on-frame, steps}
@@ -28,6 +28,10 @@ asked-tells h r t ask =
       whole = omega (arith, div-add-mod' h (r .period), eqb-true (h % r .period) 0 (on .1));
       near = leb-true t horizon (parts .1);
     }
+
+-- what is asked at one instant can be asked at any other up to the horizon
+pub asked-then : (h : ℕ) (r : Row) (t u : ℕ) → asked h r t ≡ true → u ≤ horizon → asked h r u ≡ true
+asked-then h r t u ask near = and-from (is-frame h && on-frame h r) (leb u horizon) (and-parts (is-frame h && on-frame h r) (leb t horizon) ask .0) (le-leb u horizon near)
 
 -- no amount at a frame up to the horizon has more parts than this
 abbrev pub most-parts : ℕ

@@ -1,5 +1,5 @@
 -- How large the amounts of a lawful bound can be.
-use Prim.Native.Nat.{ℕ, _+_, _*_, _<_, _≤_}
+use Prim.Native.Nat.{ℕ, _+_, _*_, _^_, _<_, _≤_}
 use mathlib.Core.Bool.{true}
 use mathlib.Core.Path.{_≡_}
 use mathlib.Core.Logic.{⊎-elim}
@@ -24,7 +24,11 @@ at-most-twice k f x some close small =
     (cases-lt (2 * x) f)
 
 -- no amount that is asked for is larger
-pub amount-fits : {m : Meaning} → Laws m → (h : ℕ) (r : Row) (t : ℕ) → asked h r t ≡ true → m .amount h r t ≤ largest
-amount-fits {m} laws h r t ask =
+pub amount-small : {m : Meaning} → Laws m → (h : ℕ) (r : Row) (t : ℕ) → asked h r t ≡ true → m .amount h r t ≤ largest
+amount-small {m} laws h r t ask =
     let known = asked-tells h r t ask in
     at-most-twice (m .accuracy) (m .amount h r t) (h * steps r t) (laws .some-accuracy) (laws .close h r t ask) (steps-fit h r t (known .frame) (known .near))
+
+-- so every one fits 64 bits
+pub amount-fits : {m : Meaning} → Laws m → (h : ℕ) (r : Row) (t : ℕ) → asked h r t ≡ true → m .amount h r t < 2 ^ 64
+amount-fits laws h r t ask = omega (arith, amount-small laws h r t ask)

@@ -12,6 +12,7 @@ use Rattle.rows.specs.Times.{horizon, ceiling}
 use Rattle.rows.specs.Counting.{steps}
 use Rattle.rows.proofs.Ceiling.{ceiling-covers, ceiling-tight}
 use Rattle.bounds.specs.Laws.{Laws}
+use Rattle.bounds.specs.Meaning.{finest}
 use Rattle.bounds.specs.Supplied.{rises, before-tail, linear-tail}
 use Rattle.bounds.proofs.Asking.{asked-tells}
 use Rattle.bounds.proofs.Corners.{earlier-before, later-past, rest-before, still-before, few-corners}
@@ -78,7 +79,7 @@ module _ (k h : ℕ) (r : Row) where
       rw (past, later-past k r t (t + 1) (omega arith) past) (omega arith)
 
 -- the linear tail keeps every law of a bound
-pub linear-laws : (k : ℕ) → 1 ≤ k → k ≤ 64 → Laws (linear-tail k)
+pub linear-laws : (k : ℕ) → 1 ≤ k → k ≤ finest → Laws (linear-tail k)
 linear-laws k low high =
     record {
       covers = λ h r t ask. cond-both (before-tail k r t) (h * steps r t) (line h r t) (λ x. h * steps r t ≤ x) (λ _. omega arith) (λ _. line-covers h r t (asked-tells h r t ask .whole));

@@ -17,9 +17,13 @@ pub record Meaning : Type 0 where
   -- no row has more corners than this up to the horizon
   pub most : ℕ
 
--- an accuracy runs from 1 to 64
+-- the greatest accuracy
+abbrev pub finest : ℕ
+finest = 64
+
+-- an accuracy runs from 1 to the greatest
 abbrev pub is-accuracy : ℕ → Bool
-is-accuracy k = leb 1 k && leb k 64
+is-accuracy k = leb 1 k && leb k finest
 
 -- a bound has something to answer: the frame is one, the row stands on it, and the instant is not past the horizon
 abbrev pub asked : ℕ → Row → ℕ → Bool

@@ -6,7 +6,7 @@ use lib.Dec.{eqb, leb}
 use Rattle.rows.specs.declared.tasks.Row.{Row}
 use Rattle.rows.specs.Times.{horizon}
 use Rattle.rows.specs.Counting.{steps}
-use Rattle.bounds.specs.Meaning.{Meaning}
+use Rattle.bounds.specs.Meaning.{Meaning, finest}
 
 -- t is b × period − jitter for some b ≥ 1: just after it the exact steps rise
 abbrev pub rises : Row → ℕ → Bool
@@ -23,7 +23,7 @@ pub record Rising : Type 0 where
 
 -- the exact steps, in parts
 abbrev pub exact-steps : Meaning
-exact-steps = record { amount = λ h r t. h * steps r t; corner = rises; accuracy = 64; most = horizon }
+exact-steps = record { amount = λ h r t. h * steps r t; corner = rises; accuracy = finest; most = horizon }
 
 -- t is not past (k − 1) × period − jitter, where the linear tail begins
 abbrev pub before-tail : ℕ → Row → ℕ → Bool

@@ -1,6 +1,7 @@
 // The exact steps, as a bound.
 ghost use Rattle.bounds.specs.Supplied.{exact-steps};
 use crate::interface::Bound;
+use crate::interface::FINEST;
 use crate::interface::asked;
 use crate::releases::next_rise;
 use rows::HORIZON;
@@ -34,7 +35,7 @@ pub impl Bound for ExactSteps as ExactStepsBound {
     }
 
     fn accuracy(&self) -> u32 {
-        64
+        FINEST
     }
 
     fn most(&self) -> u32 {

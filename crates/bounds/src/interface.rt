@@ -11,6 +11,9 @@ use rows::HORIZON;
 use rows::Row;
 use rows::is_frame;
 
+// The greatest accuracy that a bound can have.
+pub const FINEST: u32 = 64;
+
 // A bound on the demand of rows. Its meaning is fixed: every answer is the meaning's, each time.
 // Where a bound has nothing to answer (see `asked`), its amount is 0 and there is no corner.
 pub trait Bound {

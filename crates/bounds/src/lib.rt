@@ -10,6 +10,7 @@ pub use exact::ExactStepsDebug;
 pub use exact::ExactStepsEq;
 pub use exact::ExactStepsPartialEq;
 pub use interface::Bound;
+pub use interface::FINEST;
 pub use interface::asked;
 pub use linear::LinearTail;
 pub use linear::LinearTailBound;

@@ -4,9 +4,10 @@ ghost use mathlib.Core.Bool.{not};
 ghost use mathlib.Core.List.{[], _∷_};
 ghost use mathlib.Core.Path.{_≡_};
 ghost use Rattle.rows.specs.Answers.{answer, check, checked};
-ghost use Rattle.bounds.specs.Meaning.{is-accuracy};
+ghost use Rattle.bounds.specs.Meaning.{finest, is-accuracy};
 ghost use Rattle.bounds.specs.Supplied.{linear-tail, before-tail, Rising};
 use crate::interface::Bound;
+use crate::interface::FINEST;
 use crate::interface::asked;
 use crate::releases::next_rise;
 use rows::Fault;
@@ -19,7 +20,7 @@ use rows::Row;
 pub struct LinearTail {
     accuracy: u32,
     ghost low: { 1 ≤ accuracy },
-    ghost high: { accuracy ≤ 64 },
+    ghost high: { accuracy ≤ finest },
 }
 
 impl LinearTail {
@@ -28,7 +29,7 @@ impl LinearTail {
         ensures made { λ r. ⌜ answer (λ tail. tail .accuracy) r ≡ checked (check (not (is-accuracy accuracy)) 3 0 ∷ []) accuracy ⌝ }
         ensures rising { λ _. ⌜ Rising ⌝ }
     {
-        if accuracy == 0 || accuracy > 64 {
+        if accuracy == 0 || accuracy > FINEST {
             return Err(Refusal::BadAccuracy.at(0));
         }
         Ok(LinearTail { accuracy })

@@ -1,5 +1,5 @@
 -- Accuracies tried in turn, from 1 on.
-use Prim.Native.Nat.{ℕ, _<_, _≤_}
+use Prim.Native.Nat.{ℕ, _+_, _<_, _≤_}
 use mathlib.Core.Bool.{false, not}
 use mathlib.Core.List.{List, [], _∷_}
 use mathlib.Core.Path.{_≡_, sym, ap, _∙_}
@@ -12,7 +12,7 @@ use Rattle.rows.specs.declared.tasks.Row.{Row}
 use Rattle.rows.specs.Answers.{gives, check, checked}
 use Rattle.rows.proofs.Checks.{given-is, gives-any}
 use Rattle.bounds.specs.Instants.{least, First}
-use Rattle.bounds.specs.Meaning.{is-accuracy}
+use Rattle.bounds.specs.Meaning.{finest, is-accuracy}
 use Rattle.bounds.specs.Supplied.{linear-tail}
 use Rattle.bounds.proofs.Instants.{least-some, least-none}
 use Rattle.findings.specs.declared.verdicts.Finding.{Finding}
@@ -38,20 +38,20 @@ module _ (h : ℕ) (r : Row) (above : List Row) where
       ∙ ap (λ u. isSome (told u)) is
 
   -- from the first accuracy by which the row meets, it meets by all
-  pub meets-from : (a : ℕ) → Stands h above → First (meets-by h r above) 0 64 a → Meets-from h r above (Some a)
+  pub meets-from : (a : ℕ) → Stands h above → First (meets-by h r above) 0 finest a → Meets-from h r above (Some a)
   meets-from a stands first k low high =
       ⊎-elim (λ (under : k < a). first .none k low under ∙ sym (lt-leb a k under))
       (λ (over : a ≤ k). some-earlier _ _ (finer-tails a k h r above (first .after) over stands) (first .holds) ∙ sym (le-leb a k over))
       (cases-lt k a)
 
   -- that accuracy is the answer
-  pub least-met : {A : Type 0} (x y : A) (a : ℕ) → gives x ≡ checked (checks h r above) y → First (meets-by h r above) 0 64 a
-      → gives (Some a) ≡ checked (checks h r above) (least (meets-by h r above) 64 1)
+  pub least-met : {A : Type 0} (x y : A) (a : ℕ) → gives x ≡ checked (checks h r above) y → First (meets-by h r above) 0 finest a
+      → gives (Some a) ≡ checked (checks h r above) (least (meets-by h r above) finest 1)
   least-met x y a found first =
-      gives-any (checks h r above) x y found (Some a) ∙ ap (checked (checks h r above)) (sym (least-some (meets-by h r above) 64 0 64 a first (first .within)))
+      gives-any (checks h r above) x y found (Some a) ∙ ap (checked (checks h r above)) (sym (least-some (meets-by h r above) finest 0 finest a first (first .within)))
 
   -- where all were tried there is none
-  pub none-met : Tried 65 → gives None ≡ checked (checks h r above) (least (meets-by h r above) 64 1)
+  pub none-met : Tried (finest + 1) → gives None ≡ checked (checks h r above) (least (meets-by h r above) finest 1)
   none-met tried =
-      let none = least-none (meets-by h r above) 64 0 (λ k low high. tried k low (omega arith) .1) in
+      let none = least-none (meets-by h r above) finest 0 (λ k low high. tried k low (omega arith) .1) in
       gives-any (checks h r above) tt tt (tried 1 (omega arith) (omega arith) .0) None ∙ ap (checked (checks h r above)) (sym none)

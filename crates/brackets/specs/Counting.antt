@@ -8,7 +8,7 @@ use Rattle.std.specs.Options.{isSome}
 use Rattle.std.specs.declared.option.Option.{Option}
 use Rattle.std.specs.declared.option.Option.the-variants.{Some, None}
 use Rattle.rows.specs.declared.tasks.Row.{Row}
-use Rattle.bounds.specs.Meaning.{Meaning}
+use Rattle.bounds.specs.Meaning.{Meaning, finest}
 use Rattle.bounds.specs.Supplied.{exact-steps, linear-tail}
 use Rattle.findings.specs.Findings.{Found, tells, row-finding}
 use Rattle.brackets.specs.declared.counting.Counts.{Counts}
@@ -36,7 +36,7 @@ gap None b = None
 abbrev pub meets-by : ℕ → Row → List Row → ℕ → Bool
 meets-by h r above k = isSome (row-finding (linear-tail k) h r above .rest)
 
--- of the accuracies from 1 to 64, the row meets by those that are not below a; without an a, by none
+-- of all accuracies the row meets by those that are not below a; without an a, by none
 abbrev pub Meets-from : ℕ → Row → List Row → Option ℕ → Type 0
-Meets-from h r above (Some a) = (k : ℕ) → 1 ≤ k → k ≤ 64 → meets-by h r above k ≡ leb a k
-Meets-from h r above None = (k : ℕ) → 1 ≤ k → k ≤ 64 → meets-by h r above k ≡ false
+Meets-from h r above (Some a) = (k : ℕ) → 1 ≤ k → k ≤ finest → meets-by h r above k ≡ leb a k
+Meets-from h r above None = (k : ℕ) → 1 ≤ k → k ≤ finest → meets-by h r above k ≡ false

@@ -119,6 +119,27 @@ fn the_smaller_number_comes_before_the_smaller_rank() -> Result<(), Fail> {
     check_eq(answered(6, &[good, off]), refused(Refusal::OffFrame.at(2)))
 }
 
+// A row with several flaws is refused for the first of them.
+#[test]
+fn one_row_with_several_flaws() -> Result<(), Fail> {
+    check_eq(
+        answered(6, &[numbers(0, 1, 6, 9)]),
+        refused(Refusal::IdleRow.at(1)),
+    )?;
+    check_eq(
+        answered(6, &[numbers(9, 8, 7, 0)]),
+        refused(Refusal::NoWindow.at(1)),
+    )?;
+    check_eq(
+        answered(6, &[numbers(1, u32::MAX, HORIZON + 1, 0)]),
+        refused(Refusal::LateDeadline.at(1)),
+    )?;
+    check_eq(
+        answered(6, &[numbers(1, 1, HORIZON + 1, 0)]),
+        refused(Refusal::LongPeriod.at(1)),
+    )
+}
+
 // Of the rows with one flaw the first is told, also past rows with others.
 #[test]
 fn the_smallest_rank_is_told() -> Result<(), Fail> {

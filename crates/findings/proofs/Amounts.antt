@@ -16,7 +16,7 @@ use Rattle.rows.specs.Times.{horizon, is-frame}
 use Rattle.rows.specs.Counting.{on-frame, steps}
 use Rattle.bounds.specs.Laws.{Laws}
 use Rattle.bounds.specs.Meaning.{Meaning, asked}
-use Rattle.bounds.proofs.Fitting.{largest, amount-fits}
+use Rattle.bounds.proofs.Fitting.{largest, amount-small}
 use Rattle.findings.specs.Asking.{most-above}
 use Rattle.findings.specs.Demand.{Load, load, demand, rests}
 use Rattle.findings.specs.Points.{any, bend}
@@ -38,7 +38,7 @@ module _ {m : Meaning} (laws : Laws m) where
   -- a sum of amounts is at most as many times the largest
   sum-small : (h : ℕ) (rs : List Row) (t : ℕ) → is-frame h ≡ true → All (λ r. on-frame h r ≡ true) rs → t ≤ horizon → sumBy (λ r. m .amount h r t) rs ≤ length rs * largest
   sum-small h rs t frame on near =
-      sumBy-le (λ r. m .amount h r t) largest rs (all-weaker (λ r. on-frame h r ≡ true) (λ r. m .amount h r t ≤ largest) (λ r o. amount-fits laws h r t (is-asked h r t frame o near)) rs on)
+      sumBy-le (λ r. m .amount h r t) largest rs (all-weaker (λ r. on-frame h r ≡ true) (λ r. m .amount h r t ≤ largest) (λ r o. amount-small laws h r t (is-asked h r t frame o near)) rs on)
 
   -- a sum does not bend upward where none of its amounts has a corner
   sum-bends : (h : ℕ) (rs : List Row) (t : ℕ) → is-frame h ≡ true → All (λ r. on-frame h r ≡ true) rs → suc t < horizon → any (λ r. m .corner r (suc t)) rs ≡ false

@@ -3,16 +3,18 @@ use Prim.Native.Nat.{ℕ, zero, suc, _+_, _-_, _<_, _≤_}
 use mathlib.Core.Bool.{true}
 use mathlib.Core.List.{List, [], _∷_, _++_}
 use mathlib.Core.Path.{_≡_, refl, sym, ap, ap₂, subst, _∙_}
+use mathlib.Core.Logic.{_≢_, _⊎_, inl, inr, ⊎-elim}
 use native.Mathlib.Omega.{arith}
 use lib.ListN.{length, getD, set, take, drop}
 use lib.Seq.{paste}
 use Rattle.std.specs.shelf.Lists.{All}
 use Rattle.std.proofs.shelf.Edits.{paste-none, paste-more, paste-all}
 use Rattle.std.proofs.shelf.Elements.{all-take}
-use Rattle.std.proofs.shelf.Lists.{append-assoc, append-nil, getD-drop, length-take, take-at}
+use Rattle.std.proofs.shelf.Lists.{append-assoc, append-nil, getD-drop, getD-set-other, length-take, take-at}
+use Rattle.std.proofs.shelf.Tests.{cases-lt}
 use Rattle.rows.specs.declared.tasks.Row.{Row}
 use Rattle.rows.specs.Counting.{on-frame, window}
-use Rattle.rows.specs.Lists.{written}
+use Rattle.rows.specs.Lists.{written, Stays-outside}
 use Rattle.bounds.specs.Laws.{Laws}
 use Rattle.bounds.specs.Meaning.{Meaning}
 use Rattle.rows.specs.Times.{most-rows}
@@ -75,3 +77,15 @@ module _ {X : Type 0} (old new : List X) (from : ℕ) where
   -- at last all are
   pub put-all : (i : ℕ) → i - from ≡ length new → paste old from new (i - from) ≡ written old from new
   put-all i all = ap (paste old from new) all ∙ paste-all old from new (length new) refl
+
+-- a place that is written after those before it leaves the places outside as they were
+pub stays-more : {X : Type 0} (old new : List X) (from i : ℕ) (x : X) → from ≤ i → Stays-outside from i old new → Stays-outside from (i + 1) old (set new i x)
+stays-more old new from i x late stays k d outside =
+    ⊎-elim (λ (early : k < from). let ne : k ≢ i = λ e. omega arith in getD-set-other new i k x d ne ∙ stays k d (inl early))
+    (λ (past : i + 1 ≤ k). let ne : k ≢ i = λ e. omega arith in getD-set-other new i k x d ne ∙ stays k d (inr (omega arith)))
+    outside
+
+-- what is outside at the end of the rows is outside where the counting ended
+pub outside-end : (from n i k : ℕ) → i - from ≤ n - from → (k < from) ⊎ (n ≤ k) → (k < from) ⊎ (i ≤ k)
+outside-end from n i k ended outside =
+    ⊎-elim inl (λ (past : n ≤ k). ⊎-elim inl (λ (late : from ≤ k). inr (omega arith)) (cases-lt k from)) outside

@@ -6,7 +6,7 @@ ghost use lib.ListN.{length, drop};
 ghost use Rattle.std.specs.Results.{Cases};
 ghost use Rattle.std.specs.Vec.{made};
 ghost use Rattle.rows.specs.Answers.{answer, checked};
-ghost use Rattle.rows.specs.Lists.{written};
+ghost use Rattle.rows.specs.Lists.{written, Stays-outside};
 ghost use Rattle.rows.specs.Times.{most-rows};
 ghost use Rattle.findings.specs.Asking.{size-checks, table-checks};
 ghost use Rattle.findings.specs.Findings.{tells};
@@ -57,7 +57,8 @@ fn check_table(frame: u32, rows: &[Row], places: usize) -> Result<(), Fault>
 fn fill<B: Bound>(bound: &B, frame: u32, rows: &[Row], from: usize, list: &mut [Finding])
     requires fit { ⌜ Fit most-rows frame (now rows) ⌝ }
     requires room { ⌜ length (now rows) ≤ length (now list) ⌝ }
-    ensures { λ _. ⌜ map tells (now (list .exit)) ≡ written (map tells (now (list .entry))) from (drop from (findings-of (meaning (now (bound .entry))) frame (now (rows .entry)))) ⌝ }
+    ensures filled { λ _. ⌜ map tells (now (list .exit)) ≡ written (map tells (now (list .entry))) from (drop from (findings-of (meaning (now (bound .entry))) frame (now (rows .entry)))) ⌝ }
+    ensures stay { λ _. ⌜ Stays-outside from (length (now (rows .entry))) (now (list .entry)) (now (list .exit)) ⌝ }
 {
     for i in from..rows.len() {
         let row = &rows[i];
@@ -76,6 +77,7 @@ pub fn recount<B: Bound>(
 ) -> Result<(), Fault>
     ensures answered { λ r. ⌜ answer (λ u. u) r ≡ checked (table-checks frame (now (rows .entry)) (length (now (list .entry)))) tt ⌝ }
     ensures filled { λ r. ⌜ Cases r (λ _. map tells (now (list .exit)) ≡ written (map tells (now (list .entry))) from (drop from (findings-of (meaning (now (bound .entry))) frame (now (rows .entry))))) (λ _. now (list .exit) ≡ now (list .entry)) ⌝ }
+    ensures stay { λ _. ⌜ Stays-outside from (length (now (rows .entry))) (now (list .entry)) (now (list .exit)) ⌝ }
     ensures says { λ r. ⌜ made r (λ _. Table-says (meaning (now (bound .entry))) frame (now (rows .entry))) ⌝ }
 {
     check_table(frame, rows, list.len())?;

@@ -5,7 +5,7 @@ use mathlib.Core.Path.{_≡_, refl, sym, ap, ap₂, _∙_}
 use native.Mathlib.Omega.{arith}
 use lib.Dec.{lit<}
 use lib.ListN.{length, getD, set, take}
-use Rattle.std.proofs.shelf.Lists.{length-take-le, map-push, take-more, take-more-set}
+use Rattle.std.proofs.shelf.Lists.{length-map, length-take-le, map-push, take-more, take-more-set}
 use Rattle.rows.specs.declared.tasks.Numbers.{Numbers}
 use Rattle.rows.specs.declared.tasks.Row.{Row}
 use Rattle.rows.specs.Answers.{Answer, gives, checked}
@@ -54,3 +54,7 @@ module _ (table : List Numbers) (rows : List Row) (are : map plain (take (length
   -- which have these numbers
   pub numbers-kept : map plain (rows-of table) ≡ table
   numbers-kept = ap (map plain) (ap rows-of (sym are) ∙ rows-of-plain (take (length table) rows)) ∙ are
+
+  -- and are as many
+  pub rows-counted : length (rows-of table) ≡ length table
+  rows-counted = sym (length-map (rows-of table) plain) ∙ ap length numbers-kept

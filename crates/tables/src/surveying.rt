@@ -6,7 +6,7 @@ ghost use Rattle.std.specs.Results.{Cases};
 ghost use Rattle.std.specs.Vec.{made};
 ghost use Rattle.rows.specs.Answers.{answer, checked};
 ghost use Rattle.rows.specs.Judging.{plain, rows-of};
-ghost use Rattle.rows.specs.Lists.{written};
+ghost use Rattle.rows.specs.Lists.{written, Stays-outside};
 ghost use Rattle.findings.specs.Findings.{tells};
 ghost use Rattle.findings.specs.Tables.{findings-of, Table-says};
 ghost use Rattle.tables.specs.Surveys.{survey-checks};
@@ -30,6 +30,7 @@ pub fn survey<B: Bound>(
 ) -> Result<usize, Fault>
     ensures answered { λ r. ⌜ answer (λ n. n) r ≡ checked (survey-checks frame (now (table .entry)) (length (now (list .entry)))) (length (now (table .entry))) ⌝ }
     ensures filled { λ r. ⌜ Cases r (λ _. map tells (now (list .exit)) ≡ written (map tells (now (list .entry))) 0 (findings-of (meaning (now (bound .entry))) frame (rows-of (now (table .entry))))) (λ _. now (list .exit) ≡ now (list .entry)) ⌝ }
+    ensures stay { λ _. ⌜ Stays-outside 0 (length (now (table .entry))) (now (list .entry)) (now (list .exit)) ⌝ }
     ensures rows { λ r. ⌜ made r (λ _. map plain (rows-of (now (table .entry))) ≡ now (table .entry)) ⌝ }
     ensures says { λ r. ⌜ made r (λ _. Table-says (meaning (now (bound .entry))) frame (rows-of (now (table .entry)))) ⌝ }
 {

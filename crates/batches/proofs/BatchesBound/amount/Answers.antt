@@ -1,6 +1,6 @@
 use mathlib.Core.Path.{sym}
 use native.Mathlib.Omega.{arith}
-use Rattle.bounds.proofs.Asking.{asked-tells}
+use Rattle.bounds.proofs.Asking.{asked-tells, asked-then}
 use Rattle.bounds.proofs.Fitting.{amount-fits}
 use Rattle.batches.proofs.BatchLaws.{jobs-few, batch-laws}
 use Rattle.batches.proofs.BatchesBound.amount.Needs as need
@@ -15,6 +15,7 @@ pub mul-result-2 : need.mul-result-2
 mul-result-2 c =
     let b = c .args .self .now in
     let row = c .args .row .now in
-    let laws = batch-laws (b .accuracy) (b .size) (b .low) (b .high) (b .some) in
+    let asks = sym (c .if-not-asked .ensures tt) in
+    let known = asked-tells (c .args .frame) row (c .args .at) asks in
     rw (c .from .ensures, c .from-2 .ensures, c .counted-jobs .ensures, c .job-count .ensures)
-    (record { fits = omega (arith, amount-fits laws (c .args .frame) row (c .args .at) (sym (c .if-not-asked .ensures tt))) })
+    (record { fits = amount-fits (batch-laws (b .accuracy) (b .size) (b .low) (b .high) (b .some)) (c .args .frame) row _ (asked-then (c .args .frame) row (c .args .at) _ asks (omega arith)) })

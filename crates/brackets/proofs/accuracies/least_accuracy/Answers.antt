@@ -2,6 +2,7 @@ use native.Mathlib.Omega.{arith}
 use Rattle.std.proofs.shelf.Results.{err-from-errBy}
 use Rattle.rows.proofs.Checks.{refuses-any}
 use Rattle.bounds.specs.Instants.{First}
+use Rattle.bounds.specs.Meaning.{finest}
 use Rattle.findings.specs.Asking.{checks}
 use Rattle.brackets.specs.Counting.{meets-by}
 use Rattle.brackets.proofs.Passing.{stands}
@@ -19,7 +20,7 @@ returns-in-Break-finding c =
     }
 
 -- the accuracy at hand is the first by which the row meets
-first : (c : need.In-Meets) → First (meets-by (c .args .frame) (c .args .row .now) (c .args .above .now)) 0 64 (c .loop-accuracy .accuracy)
+first : (c : need.In-Meets) → First (meets-by (c .args .frame) (c .args .row .now) (c .args .above .now)) 0 finest (c .loop-accuracy .accuracy)
 first c = record {
   after = omega arith;
   within = omega arith;

@@ -3,13 +3,13 @@ use mathlib.Core.Path.{refl, ap, subst, _∙_}
 use lib.ListN.{length}
 use Rattle.std.proofs.shelf.Results.{err-from-errBy}
 use Rattle.rows.specs.Judging.{plain, frame-flaws}
-use Rattle.rows.specs.Lists.{written}
+use Rattle.rows.specs.Lists.{written, Stays-outside}
 use Rattle.rows.proofs.Checks.{answered-once, gives-any, passed-first, refused-first, refuses-any}
 use Rattle.findings.specs.Asking.{size-checks, table-checks}
 use Rattle.findings.specs.Findings.{tells}
 use Rattle.findings.specs.Tables.{findings-of, Table-says}
 use Rattle.tables.specs.Surveys.{flaws-in}
-use Rattle.tables.proofs.Judged.{rows-made, numbers-kept}
+use Rattle.tables.proofs.Judged.{rows-made, numbers-kept, rows-counted}
 use Rattle.tables.proofs.Passing.{count-passes}
 use Rattle.tables.proofs.surveying.survey.Needs as need
 
@@ -19,7 +19,7 @@ returns-in-Break-check-size g c =
     let table = c .args .table .now in
     let sizes = size-checks (c .args .frame) (length table) (length (c .args .list .now)) in
     let flaws = flaws-in (frame-flaws (c .args .frame)) table in
-    rw (p .1, p .2) (record { answered = refused-first sizes flaws _ _ tt (c .in-Break-check-size .ensures tt .checked) (length table); filled = refl; rows = tt; says = tt })
+    rw (p .1, p .2) (record { answered = refused-first sizes flaws _ _ tt (c .in-Break-check-size .ensures tt .checked) (length table); filled = refl; stay = λ k d outside. refl; rows = tt; says = tt })
 
 pub returns-in-Break-judge-all : need.returns-in-Break-judge-all
 returns-in-Break-judge-all g c =
@@ -28,7 +28,7 @@ returns-in-Break-judge-all g c =
     let sizes = size-checks (c .args .frame) (length table) (length (c .args .list .now)) in
     let flaws = flaws-in (frame-flaws (c .args .frame)) table in
     let left = passed-first sizes flaws tt tt (c .in-Continue-check-size .ensures tt .checked) (length table) in
-    rw (p .1, p .2) (record { answered = refuses-any flaws _ _ tt (c .in-Break-judge-all .ensures tt .judged) (length table) ∙ left; filled = refl; rows = tt; says = tt })
+    rw (p .1, p .2) (record { answered = refuses-any flaws _ _ tt (c .in-Break-judge-all .ensures tt .judged) (length table) ∙ left; filled = refl; stay = λ k d outside. refl; rows = tt; says = tt })
 
 -- once a table is judged, counting it is not refused
 pub returns-in-Break-recount : need.returns-in-Break-recount
@@ -52,6 +52,7 @@ returns g c =
     record {
       answered = gives-any flaws tt tt (judged .judged) (length table) ∙ passed-first sizes flaws tt tt (c .in-Continue-check-size .ensures tt .checked) (length table);
       filled = counted .filled ∙ ap (λ rows. written (map tells (c .args .list .now)) 0 (findings-of m h rows)) made;
+      stay = subst (λ n. Stays-outside 0 n (c .args .list .now) (c .recount .last .list)) (ap length made ∙ rows-counted table (c .judge-all .last .rows) (judged .rows)) (counted .stay);
       rows = numbers-kept table (c .judge-all .last .rows) (judged .rows);
       says = subst (Table-says m h) made (counted .says);
     }
