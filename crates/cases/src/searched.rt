@@ -16,7 +16,6 @@ use rows::FaultError;
 use rows::FaultPartialEq;
 use rows::HORIZON;
 use rows::Refusal;
-use rows::Row;
 use std::test::*;
 
 // With a window of 1 there is one instant to test.

@@ -3,17 +3,16 @@ use Prim.Native.Nat.{ℕ, suc, _+_, _-_, _*_, _^_, _<_, _≤_}
 use mathlib.Core.Bool.{true, false, cond}
 use mathlib.Core.List.{List, [], _∷_}
 use mathlib.Core.Path.{_≡_, sym, ap, subst, _∙_}
-use mathlib.Core.Logic.{⊎-elim}
 use native.Mathlib.Omega.{arith}
 use lib.ListN.{length, getD, take}
 use Rattle.std.specs.shelf.Lists.{All, sumBy}
 use Rattle.std.proofs.shelf.Bits.{mul-le}
 use Rattle.std.proofs.shelf.Elements.{all-getD, all-weaker}
 use Rattle.std.proofs.shelf.Sums.{sumBy-cons, sumBy-le, sumBy-more, sumBy-take-le}
-use Rattle.std.proofs.shelf.Tests.{and-from, and-parts, cases-lt, cond-true, le-leb, leb-true, leb-false, lt-leb, or-parts}
+use Rattle.std.proofs.shelf.Tests.{and-from, and-parts, cond-true, le-leb, leb-true, leb-false, lt-leb, or-parts}
 use Rattle.rows.specs.declared.tasks.Row.{Row}
 use Rattle.rows.specs.Times.{horizon, is-frame}
-use Rattle.rows.specs.Counting.{on-frame, steps}
+use Rattle.rows.specs.Counting.{on-frame}
 use Rattle.bounds.specs.Laws.{Laws}
 use Rattle.bounds.specs.Meaning.{Meaning, asked}
 use Rattle.bounds.proofs.Fitting.{largest, amount-small}
@@ -77,7 +76,7 @@ module _ (l : Load) (laws : Laws (l .bound)) (stands : Stands (l .frame) (l .abo
   pub demand-small : (t : ℕ) → length (l .above) ≤ most-above → t ≤ horizon → l .own < 2 ^ 32 → demand l t < 2 ^ 63
   demand-small t few near fits =
       let sum = sum-small laws (l .frame) (l .above) t (stands .frame) (stands .on) near in
-      let rows = mul-le (length (l .above)) largest 31 largest few (omega arith) in
+      let rows = mul-le (length (l .above)) largest most-above largest few (omega arith) in
       let own : l .frame * l .own ≤ 16777216 * 4294967296 = mul-le (l .frame) (l .own) 16777216 4294967296 (frame-high (l .frame) (stands .frame)) (omega arith) in
       omega arith
 

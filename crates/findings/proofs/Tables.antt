@@ -32,7 +32,7 @@ module _ (m : Meaning) (h : ℕ) where
   length-findings-below above (r ∷ rows) = ap suc (length-findings-below (above ++ r ∷ []) rows)
 
   -- the finding at a place is that of the row there, below the rows before it
-  pub finding-below-at : (above rows : List Row) (i : ℕ) (d : Found) (r : Row) → i < length rows → getD (findings-below m h above rows) i d ≡ row-finding m h (getD rows i r) (above ++ take i rows)
+  finding-below-at : (above rows : List Row) (i : ℕ) (d : Found) (r : Row) → i < length rows → getD (findings-below m h above rows) i d ≡ row-finding m h (getD rows i r) (above ++ take i rows)
   finding-below-at above [] i d r within = absurd (let z : ⊥ = omega arith in z)
   finding-below-at above (s ∷ rows) zero d r within = ap (row-finding m h s) (sym (append-nil above))
   finding-below-at above (s ∷ rows) (suc i) d r within =

@@ -1,7 +1,7 @@
 -- A row is known by its four numbers.
 use Prim.Native.Nat.{ℕ, _+_, _≤_}
 use mathlib.Core.List.{List, [], _∷_, map}
-use mathlib.Core.Path.{_≡_, refl, sym, ap, ap₂, _∙_}
+use mathlib.Core.Path.{_≡_, refl, ap₂, _∙_}
 use mathlib.Core.HLevel.{isProp→PathP}
 use mathlib.Core.Logic.{dif-pos}
 use native.Mathlib.Decide.{decLe}
