@@ -1,5 +1,7 @@
 // Jobs counted in batches: a bound that is brought to the toolkit. It is written as any group would
 // write its own, over what `rows` and `bounds` make public.
+#![tactic(auto)]
+
 ghost use Rattle.std.specs.Prelude.{◌≡◌, ◌^◌, ◌<◌, ◌≤◌};
 ghost use Rattle.rows.specs.Answers.{answer, checked};
 ghost use Rattle.rows.specs.Times.{horizon};

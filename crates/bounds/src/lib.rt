@@ -1,4 +1,6 @@
 // Bounds on the demand of rows, behind one interface, and the two that are supplied.
+#![tactic(auto)]
+
 mod exact;
 mod interface;
 mod linear;

@@ -1,4 +1,6 @@
 // Findings bracketed: a bound lies between the exact count and the exact count on a slower processor.
+#![tactic(auto)]
+
 mod accuracies;
 mod counting;
 

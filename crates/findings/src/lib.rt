@@ -1,4 +1,6 @@
 // The findings of rows: the demand by a bound, and the search for the first rest.
+#![tactic(auto)]
+
 mod asking;
 mod demands;
 mod recounting;

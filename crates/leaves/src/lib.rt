@@ -1,4 +1,6 @@
 // The format of leaves: what an entry holds, and which headings and findings can be filed.
+#![tactic(auto)]
+
 mod entries;
 mod judging;
 

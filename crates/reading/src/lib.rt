@@ -1,4 +1,6 @@
 // Leaves read from bytes, entry by entry and whole.
+#![tactic(auto)]
+
 mod contents;
 mod entries;
 mod fields;

@@ -1,10 +1,11 @@
 // Why a call was refused, and where. One enum and one fault for every layer of the toolkit.
-ghost use Rattle.std.specs.Prelude.{◌≡◌, Some, Decides};
+ghost use Rattle.std.specs.Prelude.{◌≡◌, Some, nat_eq, IsTrue, ◌↔◌};
 ghost use Rattle.rows.specs.Refusals.{number, words};
 ghost use Rattle.rows.specs.Shown.{shown-fault};
 ghost use Rattle.std.specs.Cmp.Rules.{comparing};
 ghost use Rattle.std.proofs.Common.{rules};
-ghost use Rattle.std.specs.Cmp as Keys;
+ghost use Rattle.std.specs.Cmp.{partial_equiv_from_equiv};
+ghost use Rattle.std.specs.Ordering.{on};
 
 use std::error::Error;
 use std::fmt;
@@ -90,11 +91,14 @@ impl Refusal {
 
 // Two refusals are equal where they are the same case.
 impl PartialEq for Refusal {
-    ghost equals = { λ x y r. Decides r (x ≡ y) };
+    ghost eq = { on number nat_eq };
 
-    ghost laws = { Keys.partial_equiv_from_equiv (Prim.search (comparing, rules)) };
+    ghost laws = { partial_equiv_from_equiv (Prim.search (comparing, rules)) };
 
-    fn eq(&self, other: &Refusal) -> bool {
+    fn eq(&self, other: &Refusal) -> bool
+        ensures numbers { result ≡ on number nat_eq self.now other.now }
+        ensures decides { IsTrue result ↔ (self.now ≡ other.now) }
+    {
         self.number() == other.number()
     }
 }

@@ -1,4 +1,6 @@
 // The survey of a whole table: every number judged, then every row's finding.
+#![tactic(auto)]
+
 mod judgement;
 mod surveying;
 

@@ -1,4 +1,6 @@
 // The worked table, surveyed in exact steps and by linear tails, counted both ways, and printed.
+#![tactic(auto)]
+
 mod printing;
 mod table;
 

@@ -10,8 +10,8 @@ counted-jobs-requires c =
     let ask = asked-tells c.args.frame row c.args.at (sym c.if-not-asked.ensures) in
     rw c.job-count.ensures (jobs-few row _ (omega arith))
 
-pub overflow-mul-result-2 : goal.overflow-mul-result-2
-overflow-mul-result-2 c =
+pub overflow_mul-result-2 : goal.overflow_mul-result-2
+overflow_mul-result-2 c =
     let b = c.args.self.now in
     let row = c.args.row.now in
     let asks = sym c.if-not-asked.ensures in

@@ -13,8 +13,8 @@ one_more g c =
     ap (λ x. x + c.amount-demand.result) c.loop-row.invariant.1
     ∙ demand-more m c.args.frame c.args.own c.args.above.now c.loop-row.row-index c.row-item.result c.args.at c.amount-demand.result c.loop-row-test.true c.row-item.is asks c.amount-demand.ensures
 
-pub overflow-add-demand : goal.overflow-add-demand
-overflow-add-demand g c =
+pub overflow_add-demand : goal.overflow_add-demand
+overflow_add-demand g c =
     let m = g.B.Bound.meaning c.args.bound.now in
     let laws = g.met.B.Bound.lawful c.args.bound.now in
     let l = load m c.args.frame c.args.own c.args.above.now in

@@ -8,8 +8,8 @@ use Rattle.findings.proofs.searching.search.Goals as goal
 pub loop-before-init : goal.loop-before-init
 loop-before-init g c = start _ c.args.last (g.met.B.Bound.lawful c.args.bound.now) c.requires.fit.stands c.requires.busy
 
-pub overflow-add-points : goal.overflow-add-points
-overflow-add-points g c =
+pub overflow_add-points : goal.overflow_add-points
+overflow_add-points g c =
     let l = load (g.B.Bound.meaning c.args.bound.now) c.args.frame c.args.own c.args.above.now in
     omega (arith, c.loop-before.invariant.counted, count-le (tested l c.args.last) c.loop-before.before)
 

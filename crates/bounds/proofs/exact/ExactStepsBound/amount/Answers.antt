@@ -2,8 +2,8 @@ use Rattle.std.proofs.Common.{sym, arith}
 use Rattle.bounds.specs.Asking.{asked-tells, steps-fit}
 use Rattle.bounds.proofs.exact.ExactStepsBound.amount.Goals as goal
 
-pub overflow-mul-result : goal.overflow-mul-result
-overflow-mul-result c =
+pub overflow_mul-result : goal.overflow_mul-result
+overflow_mul-result c =
     let row = c.args.row.now in
     let ask = asked-tells c.args.frame row c.args.at (sym c.if-asked.ensures) in
     let fit = steps-fit c.from.result row c.args.at (omega arith) ask.near in

@@ -3,8 +3,8 @@ use Rattle.std.proofs.lemmas.Bool.{cond-true, cond-false}
 use Rattle.bounds.specs.Asking.{most-parts, asked-tells, steps-fit, line-fits}
 use Rattle.bounds.proofs.linear.LinearTailBound.amount.Goals as goal
 
-pub overflow-mul-result : goal.overflow-mul-result
-overflow-mul-result c =
+pub overflow_mul-result : goal.overflow_mul-result
+overflow_mul-result c =
     let row = c.args.row.now in
     let ask = asked-tells c.args.frame row c.args.at (sym c.if-not-asked.ensures) in
     let fit = steps-fit c.from-frame.result row c.args.at (omega arith) ask.near in
@@ -17,13 +17,13 @@ sum_fits c =
     let ask = asked-tells c.args.frame row c.args.at (sym c.if-not-asked.ensures) in
     rw (c.from-frame.ensures, c.from-work.ensures, c.from-ready.ensures, c.from.ensures) (line-fits c.args.frame row c.args.at ask)
 
-pub overflow-mul-result-4 : goal.overflow-mul-result-4
-overflow-mul-result-4 c = record { fits = omega (arith, sum_fits c) }
+pub overflow_mul-result-4 : goal.overflow_mul-result-4
+overflow_mul-result-4 c = record { fits = omega (arith, sum_fits c) }
 
-pub overflow-add-result : goal.overflow-add-result
-overflow-add-result c = record { fits = omega (arith, sum_fits c) }
+pub overflow_add-result : goal.overflow_add-result
+overflow_add-result c = record { fits = omega (arith, sum_fits c) }
 
 pub returns : goal.returns
 returns c =
-    let line = cond-true _ _ _ (sym c.if-not-asked.ensures) ∙ cond-false _ _ _ (sym c.if-before-tail.ensures) in
+    let line = cond-true _ _ _ (sym c.if-not-asked.ensures) ∙ cond-false _ _ _ (sym c.if-before_tail.ensures) in
     rw (c.from-frame.ensures, c.from-work.ensures, c.from-ready.ensures, c.from.ensures) (sym (line ∙ omega arith))

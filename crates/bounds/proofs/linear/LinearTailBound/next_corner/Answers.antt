@@ -5,21 +5,21 @@ use Rattle.bounds.specs.Supplied.{rises, before-tail, linear-tail}
 use Rattle.bounds.specs.Corners.{first-corner, no-corner}
 use Rattle.bounds.specs.InstantsLemmas.{asked-some, asked-none}
 use Rattle.bounds.proofs.linear.LinearTailBound.next_corner.Goals as goal
-use Rattle.bounds.proofs.linear.LinearTailBound.next_corner.Goals.{else-corner-le-HORIZON-via-then-corner-le-HORIZON+else-before-tail, else-corner-le-HORIZON-via-else-corner-le-HORIZON}
+use Rattle.bounds.proofs.linear.LinearTailBound.next_corner.Goals.{else-corner-le-HORIZON-via-then-corner-le-HORIZON+else-before_tail, else-corner-le-HORIZON-via-else-corner-le-HORIZON}
 
-pub returns-then-before-tail : goal.returns-then-before-tail
-returns-then-before-tail c =
-    asked-some ((linear-tail c.args.self.now.accuracy).corner c.args.row.now) _ c.args.after horizon _ c.next-rise-corner.result c.if-not-asked.ensures
-    (first-corner c.args.self.now.accuracy c.args.row.now c.args.after _ c.next-rise-corner.result c.next-rise-corner.ensures c.if-before-tail.ensures)
+pub returns-then-before_tail : goal.returns-then-before_tail
+returns-then-before_tail c =
+    asked-some ((linear-tail c.args.self.now.accuracy).corner c.args.row.now) _ c.args.after horizon _ c.next_rise-corner.result c.if-not-asked.ensures
+    (first-corner c.args.self.now.accuracy c.args.row.now c.args.after _ c.next_rise-corner.result c.next_rise-corner.ensures c.if-before_tail.ensures)
     c.if-corner-le-HORIZON.true
 
 -- where the first rise is past the horizon or in the tail, there is no corner up to the horizon
 none : (c : goal.Joined-else-corner-le-HORIZON) (i : ℕ) → c.args.after < i → i ≤ horizon → (linear-tail c.args.self.now.accuracy).corner c.args.row.now i ≡ false
 none c i low high =
-    let rise = c.next-rise-corner.ensures in
+    let rise = c.next_rise-corner.ensures in
     elim c.else-corner-le-HORIZON.branch [
-      | else-corner-le-HORIZON-via-then-corner-le-HORIZON+else-before-tail w ↦
-          no-corner c.args.self.now.accuracy c.args.row.now c.args.after _ c.next-rise-corner.result rise w.if-before-tail.ensures i low
+      | else-corner-le-HORIZON-via-then-corner-le-HORIZON+else-before_tail w ↦
+          no-corner c.args.self.now.accuracy c.args.row.now c.args.after _ c.next_rise-corner.result rise w.if-before_tail.ensures i low
       | else-corner-le-HORIZON-via-else-corner-le-HORIZON w ↦
           and_left (rises c.args.row.now i) (before-tail c.args.self.now.accuracy c.args.row.now i) (rise.none i low (omega arith))
     ]
