@@ -3,7 +3,7 @@ use Rattle.std.specs.Prelude.{ℕ, ◌+◌, ◌*◌, Bool, cond, not, ◌&&◌, 
 use Rattle.rows.specs.declared.tasks.Row.{Row}
 use Rattle.rows.specs.Answers.{Check, check}
 use Rattle.rows.specs.Times.{horizon, ceiling}
-use Rattle.bounds.specs.Meaning.{Meaning, is-accuracy}
+use Rattle.bounds.specs.Meaning.{Meaning, is_accuracy}
 use Rattle.bounds.specs.Supplied.{rises}
 
 -- how many jobs are counted for n jobs, at accuracy k and in batches of g: n itself below k × g,
@@ -12,13 +12,13 @@ abbrev pub counted : ℕ → ℕ → ℕ → ℕ
 counted k g n = cond (nat_lt n (k * g)) n (ceiling n g * g)
 
 -- the most jobs of a row that can ask for work from the moment that it is ready to t
-abbrev pub job-count : Row → ℕ → ℕ
-job-count r t = ceiling (t + r.jitter) r.period
+abbrev pub job_count : Row → ℕ → ℕ
+job_count r t = ceiling (t + r.jitter) r.period
 
 -- the bound: every job that is counted asks for the row's work, and the corners are where exact steps rise
 abbrev pub batches : ℕ → ℕ → Meaning
 batches k g = record {
-  amount = λ h r t. h * (r.work * counted k g (job-count r t));
+  amount = λ h r t. h * (r.work * counted k g (job_count r t));
   corner = rises;
   accuracy = k;
   most = horizon;
@@ -34,9 +34,9 @@ abbrev pub parameters : ℕ → ℕ → Parameters
 parameters k g = record { accuracy = k; size = g }
 
 -- a batch has at least one job, and at most as many as the horizon has ticks
-abbrev pub is-size : ℕ → Bool
-is-size g = nat_le 1 g && nat_le g horizon
+abbrev pub is_size : ℕ → Bool
+is_size g = nat_le 1 g && nat_le g horizon
 
 -- what is checked before such a bound is made, in order: the accuracy, and the size of a batch
-abbrev pub batch-checks : ℕ → ℕ → List Check
-batch-checks k g = check (not (is-accuracy k)) 3 0 ∷ check (not (is-size g)) 3 0 ∷ []
+abbrev pub batch_checks : ℕ → ℕ → List Check
+batch_checks k g = check (not (is_accuracy k)) 3 0 ∷ check (not (is_size g)) 3 0 ∷ []

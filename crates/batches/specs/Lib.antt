@@ -1,3 +1,2 @@
 pub mod Batching
-pub mod BatchLaws
-pub mod JobsCounted
+pub mod Lemmas

@@ -6,8 +6,8 @@ ghost use Rattle.std.specs.Prelude.{◌≡◌, ◌^◌, ◌<◌, ◌≤◌};
 ghost use Rattle.rows.specs.Answers.{answer, checked};
 ghost use Rattle.rows.specs.Times.{horizon};
 ghost use Rattle.bounds.specs.Meaning.{finest};
-ghost use Rattle.batches.specs.Batching.{counted, job-count, batches, parameters, batch-checks};
-ghost use Rattle.batches.specs.BatchLaws.{batch-laws};
+ghost use Rattle.batches.specs.Batching.{counted, job_count, batches, parameters, batch_checks};
+ghost use Rattle.batches.specs.Lemmas.BatchLaws.{batch_laws};
 
 use bounds::{Bound, ExactSteps, FINEST, asked};
 use rows::{Fault, HORIZON, Refusal, Row};
@@ -26,7 +26,7 @@ pub struct Batches {
 
 // The most jobs of the row that can ask for work from the moment that it is ready to the instant.
 fn job_count(row: &Row, at: u32) -> u64
-    ensures { result ≡ job-count row.now at }
+    ensures { result ≡ job_count row.now at }
 {
     (u64::from(at) + u64::from(row.jitter)).div_ceil(u64::from(row.period))
 }
@@ -35,7 +35,7 @@ impl Batches {
     // The bound of an accuracy from 1 to 64 and a batch size from 1 to the horizon; refused with
     // bad accuracy otherwise.
     pub fn new(accuracy: u32, size: u32) -> Result<Batches, Fault>
-        ensures { answer (λ b. parameters b.accuracy b.size) result ≡ checked (batch-checks accuracy size) (parameters accuracy size) }
+        ensures { answer (λ b. parameters b.accuracy b.size) result ≡ checked (batch_checks accuracy size) (parameters accuracy size) }
     {
         if accuracy == 0 || accuracy > FINEST {
             return Err(Refusal::BadAccuracy.at(0));
@@ -63,7 +63,7 @@ impl Batches {
 impl Bound for Batches {
     ghost meaning = { λ b. batches b.accuracy b.size };
 
-    ghost lawful = { λ s. batch-laws s.accuracy s.size s.low s.high s.some };
+    ghost lawful = { λ s. batch_laws s.accuracy s.size s.low s.high s.some };
 
     fn amount(&self, frame: u32, row: &Row, at: u32) -> u64 {
         if !asked(frame, row, at) {

@@ -12,8 +12,8 @@ pub record Laws (m : Meaning) : Type 0 where
   -- and at most (k + 1) / k times as large
   pub close : (h : ℕ) (r : Row) (t : ℕ) → asked h r t ≡ true → m.accuracy * m.amount h r t ≤ (m.accuracy + 1) * (h * steps r t)
   -- the accuracy runs from 1 to the greatest
-  pub some-accuracy : 1 ≤ m.accuracy
-  pub most-accuracy : m.accuracy ≤ finest
+  pub some_accuracy : 1 ≤ m.accuracy
+  pub most_accuracy : m.accuracy ≤ finest
   -- between corners the amount does not bend upward
   pub bends : (h : ℕ) (r : Row) (t : ℕ) → asked h r t ≡ true → 1 ≤ t → t < horizon → m.corner r t ≡ false
       → m.amount h r (t - 1) + m.amount h r (t + 1) ≤ 2 * m.amount h r t

@@ -2,9 +2,4 @@ pub mod Instants
 pub mod Meaning
 pub mod Laws
 pub mod Supplied
-pub mod ExactLaws
-pub mod InstantsLemmas
-pub mod Rising
-pub mod LinearLaws
-pub mod Asking
-pub mod Corners
+pub mod Lemmas

@@ -1,8 +1,8 @@
 -- What a bound means, and when it is asked about something.
 use Rattle.std.specs.Prelude.{ℕ, Bool, ◌&&◌, nat_le}
 use Rattle.rows.specs.declared.tasks.Row.{Row}
-use Rattle.rows.specs.Times.{horizon, is-frame}
-use Rattle.rows.specs.Counting.{on-frame}
+use Rattle.rows.specs.Times.{horizon, is_frame}
+use Rattle.rows.specs.Counting.{on_frame}
 
 -- a bound on the demand of rows
 pub record Meaning : Type 0 where
@@ -20,9 +20,9 @@ abbrev pub finest : ℕ
 finest = 64
 
 -- an accuracy runs from 1 to the greatest
-abbrev pub is-accuracy : ℕ → Bool
-is-accuracy k = nat_le 1 k && nat_le k finest
+abbrev pub is_accuracy : ℕ → Bool
+is_accuracy k = nat_le 1 k && nat_le k finest
 
 -- a bound has something to answer: the frame is one, the row stands on it, and the instant is not past the horizon
 abbrev pub asked : ℕ → Row → ℕ → Bool
-asked h r t = is-frame h && on-frame h r && nat_le t horizon
+asked h r t = is_frame h && on_frame h r && nat_le t horizon

@@ -19,18 +19,18 @@ pub record Rising : Type 0 where
   pub level : (r : Row) (t : ℕ) → 1 ≤ t → rises r t ≡ false → steps r (t + 1) ≡ steps r t
 
 -- the exact steps, in parts
-abbrev pub exact-steps : Meaning
-exact-steps = record { amount = λ h r t. h * steps r t; corner = rises; accuracy = finest; most = horizon }
+abbrev pub exact_steps : Meaning
+exact_steps = record { amount = λ h r t. h * steps r t; corner = rises; accuracy = finest; most = horizon }
 
 -- t is not past (k − 1) × period − jitter, where the linear tail begins
-abbrev pub before-tail : ℕ → Row → ℕ → Bool
-before-tail k r t = nat_le (t + r.jitter) ((k - 1) * r.period)
+abbrev pub before_tail : ℕ → Row → ℕ → Bool
+before_tail k r t = nat_le (t + r.jitter) ((k - 1) * r.period)
 
 -- the linear tail of accuracy k: exact up to its beginning, then a straight line that lies on or above the steps
-abbrev pub linear-tail : ℕ → Meaning
-linear-tail k = record {
-  amount = λ h r t. cond (before-tail k r t) (h * steps r t) (h * r.work + (t + r.jitter) * r.work * (h / r.period));
-  corner = λ r t. rises r t && before-tail k r t;
+abbrev pub linear_tail : ℕ → Meaning
+linear_tail k = record {
+  amount = λ h r t. cond (before_tail k r t) (h * steps r t) (h * r.work + (t + r.jitter) * r.work * (h / r.period));
+  corner = λ r t. rises r t && before_tail k r t;
   accuracy = k;
   most = k - 1;
 }

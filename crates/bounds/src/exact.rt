@@ -1,6 +1,6 @@
 // The exact steps, as a bound.
-ghost use Rattle.bounds.specs.Supplied.{exact-steps};
-ghost use Rattle.bounds.specs.ExactLaws.{exact-laws};
+ghost use Rattle.bounds.specs.Supplied.{exact_steps};
+ghost use Rattle.bounds.specs.Lemmas.ExactLaws.{exact_laws};
 
 use crate::interface::{Bound, FINEST, asked};
 use crate::releases::next_rise;
@@ -11,9 +11,9 @@ use rows::{HORIZON, Row};
 pub struct ExactSteps;
 
 impl Bound for ExactSteps {
-    ghost meaning = { λ _. exact-steps };
+    ghost meaning = { λ _. exact_steps };
 
-    ghost lawful = { λ s. exact-laws };
+    ghost lawful = { λ s. exact_laws };
 
     fn amount(&self, frame: u32, row: &Row, at: u32) -> u64 {
         if asked(frame, row, at) {

@@ -1,9 +1,9 @@
 // The linear tail: a few exact steps, then a straight line on or above the steps.
 ghost use Rattle.std.specs.Prelude.{◌≡◌, ◌≤◌, not, [], ◌∷◌};
 ghost use Rattle.rows.specs.Answers.{answer, check, checked};
-ghost use Rattle.bounds.specs.Meaning.{finest, is-accuracy};
-ghost use Rattle.bounds.specs.Supplied.{linear-tail, before-tail, Rising};
-ghost use Rattle.bounds.specs.LinearLaws.{linear-laws};
+ghost use Rattle.bounds.specs.Meaning.{finest, is_accuracy};
+ghost use Rattle.bounds.specs.Supplied.{linear_tail, before_tail, Rising};
+ghost use Rattle.bounds.specs.Lemmas.LinearLaws.{linear_laws};
 
 use crate::interface::{Bound, FINEST, asked};
 use crate::releases::next_rise;
@@ -20,7 +20,7 @@ pub struct LinearTail {
 impl LinearTail {
     // The linear tail of accuracy k; refused with bad accuracy outside 1 to 64.
     pub fn new(accuracy: u32) -> Result<LinearTail, Fault>
-        ensures made { answer (λ tail. tail.accuracy) result ≡ checked (check (not (is-accuracy accuracy)) 3 0 ∷ []) accuracy }
+        ensures made { answer (λ tail. tail.accuracy) result ≡ checked (check (not (is_accuracy accuracy)) 3 0 ∷ []) accuracy }
         ensures rising { Rising }
     {
         if accuracy == 0 || accuracy > FINEST {
@@ -32,16 +32,16 @@ impl LinearTail {
     // Whether the instant is not past (k − 1) × period − jitter, where the tail begins.
     fn before_tail(&self, row: &Row, at: u32) -> bool
         requires { at ≤ 33554432 }
-        ensures { result ≡ before-tail self.now.accuracy row.now at }
+        ensures { result ≡ before_tail self.now.accuracy row.now at }
     {
         at + row.jitter <= (self.accuracy - 1) * row.period
     }
 }
 
 impl Bound for LinearTail {
-    ghost meaning = { λ tail. linear-tail tail.accuracy };
+    ghost meaning = { λ tail. linear_tail tail.accuracy };
 
-    ghost lawful = { λ s. linear-laws s.accuracy s.low s.high };
+    ghost lawful = { λ s. linear_laws s.accuracy s.low s.high };
 
     fn amount(&self, frame: u32, row: &Row, at: u32) -> u64 {
         if !asked(frame, row, at) {

@@ -2,8 +2,8 @@
 use Rattle.std.specs.Prelude.{◌≡◌, ℕ, ◌-◌, ◌≤◌, Bool, false, List, is_some, Some, None, Option, nat_le}
 use Rattle.rows.specs.declared.tasks.Row.{Row}
 use Rattle.bounds.specs.Meaning.{Meaning, finest}
-use Rattle.bounds.specs.Supplied.{exact-steps, linear-tail}
-use Rattle.findings.specs.Findings.{Found, tells, row-finding}
+use Rattle.bounds.specs.Supplied.{exact_steps, linear_tail}
+use Rattle.findings.specs.Findings.{Found, tells, row_finding}
 use Rattle.brackets.specs.declared.counting.Counts.{Counts}
 
 -- two findings about a row in numbers: in exact steps and by a bound
@@ -16,8 +16,8 @@ abbrev pub both : Counts → Counted
 both c = record { exact = tells c.exact; bounded = tells c.bounded }
 
 -- the two findings about a row below others, at a frame
-abbrev pub row-counted : Meaning → ℕ → Row → List Row → Counted
-row-counted m h r above = record { exact = row-finding exact-steps h r above; bounded = row-finding m h r above }
+abbrev pub row_counted : Meaning → ℕ → Row → List Row → Counted
+row_counted m h r above = record { exact = row_finding exact_steps h r above; bounded = row_finding m h r above }
 
 -- how much later the first rest b comes than a, where there are both
 abbrev pub gap : Option ℕ → Option ℕ → Option ℕ
@@ -26,10 +26,10 @@ gap (Some a) None = None
 gap None b = None
 
 -- the row meets by the linear tail of accuracy k
-abbrev pub meets-by : ℕ → Row → List Row → ℕ → Bool
-meets-by h r above k = is_some (row-finding (linear-tail k) h r above).rest
+abbrev pub meets_by : ℕ → Row → List Row → ℕ → Bool
+meets_by h r above k = is_some (row_finding (linear_tail k) h r above).rest
 
 -- of all accuracies the row meets by those that are not below a; without an a, by none
-abbrev pub Meets-from : ℕ → Row → List Row → Option ℕ → Type 0
-Meets-from h r above (Some a) = (k : ℕ) → 1 ≤ k → k ≤ finest → meets-by h r above k ≡ nat_le a k
-Meets-from h r above None = (k : ℕ) → 1 ≤ k → k ≤ finest → meets-by h r above k ≡ false
+abbrev pub MeetsFrom : ℕ → Row → List Row → Option ℕ → Type 0
+MeetsFrom h r above (Some a) = (k : ℕ) → 1 ≤ k → k ≤ finest → meets_by h r above k ≡ nat_le a k
+MeetsFrom h r above None = (k : ℕ) → 1 ≤ k → k ≤ finest → meets_by h r above k ≡ false

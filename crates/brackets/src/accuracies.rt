@@ -4,8 +4,8 @@ ghost use Rattle.rows.specs.Answers.{answer, checked};
 ghost use Rattle.bounds.specs.Instants.{least};
 ghost use Rattle.bounds.specs.Meaning.{finest};
 ghost use Rattle.findings.specs.Asking.{checks};
-ghost use Rattle.brackets.specs.Bracketing.{Finer-tails};
-ghost use Rattle.brackets.specs.Counting.{meets-by, Meets-from};
+ghost use Rattle.brackets.specs.Bracketing.{FinerTails};
+ghost use Rattle.brackets.specs.Counting.{meets_by, MeetsFrom};
 
 use bounds::{FINEST, LinearTail};
 use findings::{Verdict, find};
@@ -13,9 +13,9 @@ use rows::{Fault, Row};
 
 // The least accuracy of a linear tail by which the row meets, if there is one.
 pub fn least_accuracy(frame: u32, row: &Row, above: &[Row]) -> Result<Option<u32>, Fault>
-    ensures least { answer (λ o. o) result ≡ checked (checks frame row.now above.now) (least (meets-by frame row.now above.now) finest 1) }
-    ensures from { IfOk result (λ o. Meets-from frame row.now above.now o) }
-    ensures finer { Finer-tails }
+    ensures least { answer (λ o. o) result ≡ checked (checks frame row.now above.now) (least (meets_by frame row.now above.now) finest 1) }
+    ensures from { IfOk result (λ o. MeetsFrom frame row.now above.now o) }
+    ensures finer { FinerTails }
 {
     for accuracy in 1..=FINEST {
         let tail = LinearTail::new(accuracy)?;

@@ -2,10 +2,10 @@
 ghost use Rattle.std.specs.Prelude.{◌≡◌, IfOk};
 ghost use Rattle.rows.specs.Answers.{answer, checked};
 ghost use Rattle.findings.specs.Asking.{checks};
-ghost use Rattle.findings.specs.Exact.{exact-rest};
+ghost use Rattle.findings.specs.Exact.{exact_rest};
 ghost use Rattle.findings.specs.Findings.{told};
-ghost use Rattle.brackets.specs.Bracketing.{Any-order, Between, Brackets, Fewer-above};
-ghost use Rattle.brackets.specs.Counting.{both, gap, row-counted};
+ghost use Rattle.brackets.specs.Bracketing.{AnyOrder, Between, Brackets, FewerAbove};
+ghost use Rattle.brackets.specs.Counting.{both, gap, row_counted};
 
 use bounds::{Bound, ExactSteps};
 use findings::{Finding, Verdict, find};
@@ -37,12 +37,12 @@ pub fn count_both<B: Bound>(
     row: &Row,
     above: &[Row],
 ) -> Result<Counts, Fault>
-    ensures counted { answer both result ≡ checked (checks frame row.now above.now) (row-counted (meaning bound.now) frame row.now above.now) }
-    ensures exactly { IfOk result (λ c. told c.exact.verdict ≡ exact-rest row.now above.now) }
-    ensures between { IfOk result (λ c. Between (meaning bound.now).accuracy row.now above.now (told c.bounded.verdict)) }
-    ensures brackets { Brackets (meaning bound.now) }
-    ensures fewer { Fewer-above (meaning bound.now) }
-    ensures order { Any-order (meaning bound.now) }
+    ensures counted { answer both result ≡ checked (checks frame row.now above.now) (row_counted (B.meaning bound.now) frame row.now above.now) }
+    ensures exactly { IfOk result (λ c. told c.exact.verdict ≡ exact_rest row.now above.now) }
+    ensures between { IfOk result (λ c. Between (B.meaning bound.now).accuracy row.now above.now (told c.bounded.verdict)) }
+    ensures brackets { Brackets (B.meaning bound.now) }
+    ensures fewer { FewerAbove (B.meaning bound.now) }
+    ensures order { AnyOrder (B.meaning bound.now) }
 {
     let exact = find(&ExactSteps, frame, row, above)?;
     let bounded = find(bound, frame, row, above)?;

@@ -7,8 +7,8 @@ use Rattle.rows.specs.declared.tasks.Row.{Row}
 use Rattle.rows.specs.Times.{horizon}
 use Rattle.bounds.specs.Instants.{least, First}
 use Rattle.bounds.specs.Meaning.{Meaning, asked}
-use Rattle.bounds.specs.InstantsLemmas.{least-after}
-use Rattle.findings.specs.Points.{any, test-point}
+use Rattle.bounds.specs.Lemmas.Instants.{least_after}
+use Rattle.findings.specs.Points.{any, test_point}
 
 -- one element more passes where the front or it does
 any_push : {X : Type 0} (p : X → Bool) (xs : List X) (x : X) → any p (xs ++ x ∷ []) ≡ (any p xs || p x)
@@ -16,8 +16,8 @@ any_push p [] x = or_comm (p x) false
 any_push p (y ∷ xs) x = ap (λ b. p y || b) (any_push p xs x) ∙ sym (or_assoc (p y) (any p xs) (p x))
 
 -- a first instant is one for another test that finds nothing earlier and holds there
-first-like : (p q : ℕ → Bool) (s e t : ℕ) → First p s e t → (p t ≡ true → q t ≡ true) → ((i : ℕ) → s < i → i < t → p i ≡ false → q i ≡ false) → First q s e t
-first-like p q s e t first here none = record {
+first_like : (p q : ℕ → Bool) (s e t : ℕ) → First p s e t → (p t ≡ true → q t ≡ true) → ((i : ℕ) → s < i → i < t → p i ≡ false → q i ≡ false) → First q s e t
+first_like p q s e t first here none = record {
   after = first.after;
   within = first.within;
   holds = here first.holds;
@@ -27,10 +27,10 @@ first-like p q s e t first here none = record {
 module _ (m : Meaning) (h last : ℕ) (rs : List Row) (i : ℕ) (r : Row) (within : i < length rs) (read : r ≡ get_or rs i r) where
   -- the test points with the rows seen so far, and with one more
   abbrev seen : ℕ → Bool
-  seen = test-point m (take i rs) last
+  seen = test_point m (take i rs) last
 
   abbrev seen_more : ℕ → Bool
-  seen_more = test-point m (take (i + 1) rs) last
+  seen_more = test_point m (take (i + 1) rs) last
 
   -- with one row more, the test points gain its corners before the last instant
   gains : (t : ℕ) → seen_more t ≡ (seen t || (ltb t last && m.corner r t))
@@ -46,7 +46,7 @@ module _ (m : Meaning) (h last : ℕ) (rs : List Row) (i : ℕ) (r : Row) (withi
   -- where the row has no corner before the first test point, that stays the first
   stays : (after t : ℕ) → First seen after last t → ((j : ℕ) → after < j → j < t → m.corner r j ≡ false) → First seen_more after last t
   stays after t first none =
-      first-like seen seen_more after last t first (λ e. gains t ∙ or_left (seen t) _ e) (λ j low high e. gains j ∙ or_from (seen j) _ e (and_right (ltb j last) (m.corner r j) (none j low high)))
+      first_like seen seen_more after last t first (λ e. gains t ∙ or_left (seen t) _ e) (λ j low high e. gains j ∙ or_from (seen j) _ e (and_right (ltb j last) (m.corner r j) (none j low high)))
 
   -- a corner of the row before it takes its place
   comes : (after t c e : ℕ) → First seen after last t → c < t → First (m.corner r) after e c → First seen_more after last c
@@ -58,10 +58,10 @@ module _ (m : Meaning) (h last : ℕ) (rs : List Row) (i : ℕ) (r : Row) (withi
   }
 
   -- so the first is the nearer of it and the row's next corner, as the bound answers it
-  pub nearest-more : (after t : ℕ) → after < last → last ≤ horizon → First seen after last t → asked h r after ≡ true
+  pub nearest_more : (after t : ℕ) → after < last → last ≤ horizon → First seen after last t → asked h r after ≡ true
       → (o : Option ℕ) → o ≡ cond (asked h r after) (least (m.corner r) (horizon - after) (after + 1)) None
       → MatchOption o (First seen_more after last t) (λ c. First seen_more after last (min t c))
-  nearest-more after t before near first asks o is = at o (subst (λ x. MatchOption x ((j : ℕ) → after < j → j ≤ after + (horizon - after) → m.corner r j ≡ false) (First (m.corner r) after (after + (horizon - after)))) (sym (is ∙ cond-true _ _ _ asks)) (least-after (m.corner r) (horizon - after) after))
+  nearest_more after t before near first asks o is = at o (subst (λ x. MatchOption x ((j : ℕ) → after < j → j ≤ after + (horizon - after) → m.corner r j ≡ false) (First (m.corner r) after (after + (horizon - after)))) (sym (is ∙ cond-true _ _ _ asks)) (least_after (m.corner r) (horizon - after) after))
     where
       at : (o : Option ℕ) → MatchOption o ((j : ℕ) → after < j → j ≤ after + (horizon - after) → m.corner r j ≡ false) (First (m.corner r) after (after + (horizon - after))) → MatchOption o (First seen_more after last t) (λ c. First seen_more after last (min t c))
       at None none = stays after t first (λ j low high. none j low (omega (arith, first.within)))

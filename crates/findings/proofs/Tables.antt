@@ -7,63 +7,63 @@ use Rattle.std.proofs.ByRecursion.{All-take}
 use Rattle.std.proofs.lemmas.List.{append_assoc, append-nil, get_or-drop, get_or-set_other, length-take, take_at}
 use Rattle.std.proofs.lemmas.Bool.{cases_lt}
 use Rattle.rows.specs.declared.tasks.Row.{Row}
-use Rattle.rows.specs.Counting.{on-frame, window}
-use Rattle.rows.specs.Lists.{written, Stays-outside}
+use Rattle.rows.specs.Counting.{on_frame, window}
+use Rattle.rows.specs.Lists.{written, StaysOutside}
 use Rattle.bounds.specs.Laws.{Laws}
 use Rattle.bounds.specs.Meaning.{Meaning}
-use Rattle.rows.specs.Times.{most-rows}
-use Rattle.findings.specs.Asking.{most-above}
+use Rattle.rows.specs.Times.{most_rows}
+use Rattle.findings.specs.Asking.{most_above}
 use Rattle.findings.specs.Demand.{load}
-use Rattle.findings.specs.Findings.{Found, finding, row-finding}
-use Rattle.findings.specs.Tables.{findings-below, findings-of, Table-says}
+use Rattle.findings.specs.Findings.{Found, finding, row_finding}
+use Rattle.findings.specs.Tables.{findings_below, findings_of, TableSays}
 use Rattle.findings.specs.Fitting.{Fit, Stands}
-use Rattle.findings.proofs.Walk.{finding-says}
+use Rattle.findings.proofs.Walk.{finding_says}
 
 module _ (m : Meaning) (h : ℕ) where
   -- there are as many findings as rows
-  pub length-findings-below : (above rows : List Row) → length (findings-below m h above rows) ≡ length rows
-  length-findings-below above [] = refl
-  length-findings-below above (r ∷ rows) = ap suc (length-findings-below (above ++ r ∷ []) rows)
+  pub length_findings_below : (above rows : List Row) → length (findings_below m h above rows) ≡ length rows
+  length_findings_below above [] = refl
+  length_findings_below above (r ∷ rows) = ap suc (length_findings_below (above ++ r ∷ []) rows)
 
   -- the finding at a place is that of the row there, below the rows before it
-  finding-below-at : (above rows : List Row) (i : ℕ) (d : Found) (r : Row) → i < length rows → get_or (findings-below m h above rows) i d ≡ row-finding m h (get_or rows i r) (above ++ take i rows)
-  finding-below-at above [] i d r within = absurd (let z : ⊥ = omega arith in z)
-  finding-below-at above (s ∷ rows) zero d r within = ap (row-finding m h s) (sym (append-nil above))
-  finding-below-at above (s ∷ rows) (suc i) d r within =
-      finding-below-at (above ++ s ∷ []) rows i d r (omega arith) ∙ ap (row-finding m h (get_or rows i r)) (append_assoc above (s ∷ []) (take i rows))
+  finding_below_at : (above rows : List Row) (i : ℕ) (d : Found) (r : Row) → i < length rows → get_or (findings_below m h above rows) i d ≡ row_finding m h (get_or rows i r) (above ++ take i rows)
+  finding_below_at above [] i d r within = absurd (let z : ⊥ = omega arith in z)
+  finding_below_at above (s ∷ rows) zero d r within = ap (row_finding m h s) (sym (append-nil above))
+  finding_below_at above (s ∷ rows) (suc i) d r within =
+      finding_below_at (above ++ s ∷ []) rows i d r (omega arith) ∙ ap (row_finding m h (get_or rows i r)) (append_assoc above (s ∷ []) (take i rows))
 
 -- the rows before a place fit as rows above
-pub rows-above-fit : (h : ℕ) (rows : List Row) (i : ℕ) → Fit most-rows h rows → i < length rows → Fit most-above h (take i rows)
-rows-above-fit h rows i fit within = record {
-  stands = record { frame = fit.stands.frame; on = All-take (λ r. on-frame h r ≡ true) i rows fit.stands.on };
+pub rows_above_fit : (h : ℕ) (rows : List Row) (i : ℕ) → Fit most_rows h rows → i < length rows → Fit most_above h (take i rows)
+rows_above_fit h rows i fit within = record {
+  stands = record { frame = fit.stands.frame; on = All-take (λ r. on_frame h r ≡ true) i rows fit.stands.on };
   few = omega (arith, length-take i rows, fit.few);
 }
 
 -- a finding counted for the row at a place is the one there among the findings from some place on
-pub counted-at : (m : Meaning) (h : ℕ) (rows : List Row) (from i : ℕ) (r : Row) (f : Found) (last : ℕ) → from ≤ i → i < length rows → r ≡ get_or rows i r → last ≡ window r
-    → f ≡ finding (load m h r.work (take (i - 0) rows)) last → f ≡ get_or (drop from (findings-of m h rows)) (i - from) f
-counted-at m h rows from i r f last late within read at-window found =
+pub counted_at : (m : Meaning) (h : ℕ) (rows : List Row) (from i : ℕ) (r : Row) (f : Found) (last : ℕ) → from ≤ i → i < length rows → r ≡ get_or rows i r → last ≡ window r
+    → f ≡ finding (load m h r.work (take (i - 0) rows)) last → f ≡ get_or (drop from (findings_of m h rows)) (i - from) f
+counted_at m h rows from i r f last late within read at-window found =
     let whole : i - 0 ≡ i = omega arith in
     let place : from + (i - from) ≡ i = omega arith in
-    found ∙ ap₂ (λ n l. finding (load m h r.work (take n rows)) l) whole at-window ∙ ap (λ s. row-finding m h s (take i rows)) read
-    ∙ sym (finding-below-at m h [] rows i f r within) ∙ ap (λ n. get_or (findings-of m h rows) n f) (sym place) ∙ sym (get_or-drop from (findings-of m h rows) (i - from) f)
+    found ∙ ap₂ (λ n l. finding (load m h r.work (take n rows)) l) whole at-window ∙ ap (λ s. row_finding m h s (take i rows)) read
+    ∙ sym (finding_below_at m h [] rows i f r within) ∙ ap (λ n. get_or (findings_of m h rows) n f) (sym place) ∙ sym (get_or-drop from (findings_of m h rows) (i - from) f)
 
 -- of every row of a table that stands on a frame the finding says what a finding says
-pub table-says : (m : Meaning) (h : ℕ) (rows : List Row) → Laws m → Stands h rows → Table-says m h rows
-table-says m h rows laws stands xs ys r split =
+pub table_says : (m : Meaning) (h : ℕ) (rows : List Row) → Laws m → Stands h rows → TableSays m h rows
+table_says m h rows laws stands xs ys r split =
     let front = ap (take (length xs)) split ∙ take_at xs (r ∷ ys) (length xs) refl in
-    let on = subst (All (λ s. on-frame h s ≡ true)) front (All-take (λ s. on-frame h s ≡ true) (length xs) rows stands.on) in
-    finding-says (load m h r.work xs) (window r) laws (record { frame = stands.frame; on = on }) r.busy (omega arith)
+    let on = subst (All (λ s. on_frame h s ≡ true)) front (All-take (λ s. on_frame h s ≡ true) (length xs) rows stands.on) in
+    finding_says (load m h r.work xs) (window r) laws (record { frame = stands.frame; on = on }) r.busy (omega arith)
 
 -- new elements put into a list from a place on, one after another
 module _ {X : Type 0} (old new : List X) (from : ℕ) where
   -- at first none is
-  pub put-none : old ≡ paste old from new (from - from)
-  put-none = let none : 0 ≡ from - from = omega arith in paste_none old from new ∙ ap (paste old from new) none
+  pub put_none : old ≡ paste old from new (from - from)
+  put_none = let none : 0 ≡ from - from = omega arith in paste_none old from new ∙ ap (paste old from new) none
 
   -- then one more
-  pub put-more : (i : ℕ) (x : X) → from ≤ i → i < length old → i - from < length new → x ≡ get_or new (i - from) x → set (paste old from new (i - from)) i x ≡ paste old from new (i + 1 - from)
-  put-more i x late within left read =
+  pub put_more : (i : ℕ) (x : X) → from ≤ i → i < length old → i - from < length new → x ≡ get_or new (i - from) x → set (paste old from new (i - from)) i x ≡ paste old from new (i + 1 - from)
+  put_more i x late within left read =
       let place : i ≡ from + (i - from) = omega arith in
       let next : i - from + 1 ≡ i + 1 - from = omega arith in
       ap₂ (set (paste old from new (i - from))) place read ∙ paste_more old from new (i - from) x (omega arith) left ∙ ap (paste old from new) next
@@ -73,13 +73,13 @@ module _ {X : Type 0} (old new : List X) (from : ℕ) where
   put_all i all = ap (paste old from new) all ∙ paste_all old from new (length new) refl
 
 -- a place that is written after those before it leaves the places outside as they were
-pub stays-more : {X : Type 0} (old new : List X) (from i : ℕ) (x : X) → from ≤ i → Stays-outside from i old new → Stays-outside from (i + 1) old (set new i x)
-stays-more old new from i x late stays k d outside =
+pub stays_more : {X : Type 0} (old new : List X) (from i : ℕ) (x : X) → from ≤ i → StaysOutside from i old new → StaysOutside from (i + 1) old (set new i x)
+stays_more old new from i x late stays k d outside =
     ⊎_elim (λ (early : k < from). let ne : k ≢ i = λ e. omega arith in get_or-set_other new i k x d ne ∙ stays k d (inl early))
     (λ (past : i + 1 ≤ k). let ne : k ≢ i = λ e. omega arith in get_or-set_other new i k x d ne ∙ stays k d (inr (omega arith)))
     outside
 
 -- what is outside at the end of the rows is outside where the counting ended
-pub outside-end : (from n i k : ℕ) → i - from ≤ n - from → (k < from) ⊎ (n ≤ k) → (k < from) ⊎ (i ≤ k)
-outside-end from n i k ended outside =
+pub outside_end : (from n i k : ℕ) → i - from ≤ n - from → (k < from) ⊎ (n ≤ k) → (k < from) ⊎ (i ≤ k)
+outside_end from n i k ended outside =
     ⊎_elim inl (λ (past : n ≤ k). ⊎_elim inl (λ (late : from ≤ k). inr (omega arith)) (cases_lt k from)) outside

@@ -1,7 +1,7 @@
 -- Between two neighbouring test points a row that has come to rest goes on resting.
 use Rattle.std.proofs.Common.{◌≡◌, ℕ, zero, suc, ◌+◌, ◌-◌, ◌*◌, ◌<◌, ◌≤◌, Bool, false, sym, ap, subst, ⊎_elim, arith}
 use Rattle.std.proofs.lemmas.Bool.{both_ways, cases_Bool, cases_lt}
-use Rattle.findings.specs.Fitting.{Once-then-on}
+use Rattle.findings.specs.Fitting.{OnceThenOn}
 
 -- G is a demand counted in parts, h to a unit: at p it is not served, and it does not bend upward
 -- strictly between p and q
@@ -19,8 +19,8 @@ module _ (G : ℕ → ℕ) (h p q : ℕ) (late : h * p < G p)
       (cases_lt (h * suc (p + n)) (G (suc (p + n))))
 
   -- the demand that is served at an instant is served at the next
-  on-by-one : (t : ℕ) → p < t → t < q → G t ≤ h * t → G (suc t) ≤ h * suc t
-  on-by-one t after before served =
+  on_by_one : (t : ℕ) → p < t → t < q → G t ≤ h * t → G (suc t) ≤ h * suc t
+  on_by_one t after before served =
       let n = t - suc p in
       let e : suc (p + n) ≡ t = omega arith in
       let here : G (suc (p + n)) ≤ h * suc (p + n) = subst (λ x. G x ≤ h * x) (sym e) served in
@@ -30,13 +30,13 @@ module _ (G : ℕ → ℕ) (h p q : ℕ) (late : h * p < G p)
       subst (λ x. G (suc x) ≤ h * suc x) e there
 
   -- and at every later one up to q
-  pub on-from : (n t : ℕ) → p < t → t + n ≤ q → G t ≤ h * t → G (t + n) ≤ h * (t + n)
-  on-from zero t after within served = let e : t ≡ t + zero = omega arith in subst (λ x. G x ≤ h * x) e served
-  on-from (suc n) t after within served =
+  pub on_from : (n t : ℕ) → p < t → t + n ≤ q → G t ≤ h * t → G (t + n) ≤ h * (t + n)
+  on_from zero t after within served = let e : t ≡ t + zero = omega arith in subst (λ x. G x ≤ h * x) e served
+  on_from (suc n) t after within served =
       let e : suc (t + n) ≡ t + suc n = omega arith in
-      subst (λ x. G x ≤ h * x) e (on-by-one (t + n) (omega arith) (omega arith) (on-from n t after (omega arith) served))
+      subst (λ x. G x ≤ h * x) e (on_by_one (t + n) (omega arith) (omega arith) (on_from n t after (omega arith) served))
 
 -- where an instant has not p, none before it has
-pub not-before : (p : ℕ → Bool) (s e j : ℕ) → Once-then-on p s e → j ≤ e → p j ≡ false → (i : ℕ) → s < i → i ≤ j → p i ≡ false
-not-before p s e j on within late i after low =
+pub not_before : (p : ℕ → Bool) (s e j : ℕ) → OnceThenOn p s e → j ≤ e → p j ≡ false → (i : ℕ) → s < i → i ≤ j → p i ≡ false
+not_before p s e j on within late i after low =
     ⊎_elim (λ rest. absurd (both_ways (p j) late (on i j after low within rest))) (λ none. none) (cases_Bool (p i))

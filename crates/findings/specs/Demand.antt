@@ -16,12 +16,12 @@ abbrev pub load : Meaning → ℕ → ℕ → List Row → Load
 load m h own above = record { bound = m; frame = h; own = own; above = above }
 
 -- what the rows above can demand up to t, in parts
-abbrev pub above-demand : Load → ℕ → ℕ
-above-demand l t = sum_by (λ r. l.bound.amount l.frame r t) l.above
+abbrev pub above_demand : Load → ℕ → ℕ
+above_demand l t = sum_by (λ r. l.bound.amount l.frame r t) l.above
 
 -- the demand up to t: the own work and what the rows above can demand, in parts
 abbrev pub demand : Load → ℕ → ℕ
-demand l t = l.frame * l.own + above-demand l t
+demand l t = l.frame * l.own + above_demand l t
 
 -- the row rests at t: all that is demanded up to t is served by t
 abbrev pub rests : Load → ℕ → Bool

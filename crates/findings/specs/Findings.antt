@@ -9,7 +9,7 @@ use Rattle.rows.specs.declared.tasks.Row.{Row}
 use Rattle.rows.specs.Counting.{window}
 use Rattle.bounds.specs.Meaning.{Meaning}
 use Rattle.findings.specs.Demand.{Load, load, rests}
-use Rattle.findings.specs.Points.{test-point}
+use Rattle.findings.specs.Points.{test_point}
 
 -- a finding in numbers: the first rest, if there is one, and the points tested
 pub record Found : Type 0 where
@@ -31,7 +31,7 @@ first_rest l last = least (rests l) last 1
 
 -- the test points of a row that may rest up to last
 abbrev pub tested : Load → ℕ → ℕ → Bool
-tested l last = test-point l.bound l.above last
+tested l last = test_point l.bound l.above last
 
 -- a test point at which the row rests
 abbrev pub accepts : Load → ℕ → ℕ → Bool
@@ -50,8 +50,8 @@ abbrev pub finding : Load → ℕ → Found
 finding l last = record { rest = first_rest l last; points = points l last }
 
 -- the finding about a row below others, by a bound at a frame: its own work is its work, and it may rest up to its window
-abbrev pub row-finding : Meaning → ℕ → Row → List Row → Found
-row-finding m h r above = finding (load m h r.work above) (window r)
+abbrev pub row_finding : Meaning → ℕ → Row → List Row → Found
+row_finding m h r above = finding (load m h r.work above) (window r)
 
 -- what a finding says, for a reader who runs nothing
 pub record Says (l : Load) (last : ℕ) (f : Found) : Type 0 where
@@ -64,5 +64,5 @@ pub record Says (l : Load) (last : ℕ) (f : Found) : Type 0 where
       (λ _. (s : ℕ) × First (accepts l last) 0 last s × (f.points ≡ count (tested l last) s))
 
 -- the same of the finding about a row below others
-abbrev pub Row-says : Meaning → ℕ → Row → List Row → Found → Type 0
-Row-says m h r above f = Says (load m h r.work above) (window r) f
+abbrev pub RowSays : Meaning → ℕ → Row → List Row → Found → Type 0
+RowSays m h r above f = Says (load m h r.work above) (window r) f

@@ -13,5 +13,5 @@ abbrev pub bend : Meaning → List Row → ℕ → Bool
 bend m above t = any (λ r. m.corner r t) above
 
 -- a test point of a row that may rest up to last: last itself, or a corner of a row above before it
-abbrev pub test-point : Meaning → List Row → ℕ → ℕ → Bool
-test-point m above last t = t == last || (nat_lt t last && bend m above t)
+abbrev pub test_point : Meaning → List Row → ℕ → ℕ → Bool
+test_point m above last t = t == last || (nat_lt t last && bend m above t)

@@ -2,9 +2,9 @@
 ghost use Rattle.std.specs.Prelude.{◌≡◌, ◌+◌, IfOk, OnOk};
 ghost use Rattle.std.specs.Option.{option_map};
 ghost use Rattle.rows.specs.Answers.{answer, checked};
-ghost use Rattle.bounds.specs.Supplied.{exact-steps};
-ghost use Rattle.findings.specs.Asking.{checks, most-above, standing};
-ghost use Rattle.findings.specs.Findings.{tells, row-finding, Row-says};
+ghost use Rattle.bounds.specs.Supplied.{exact_steps};
+ghost use Rattle.findings.specs.Asking.{checks, most_above, standing};
+ghost use Rattle.findings.specs.Findings.{tells, row_finding, RowSays};
 ghost use Rattle.findings.specs.Exact.{response, Responds};
 ghost use Rattle.findings.specs.Fitting.{Fit};
 
@@ -31,7 +31,7 @@ pub(crate) fn standing(frame: u32, rows: &[Row]) -> usize
 // What is checked of a question before anything is counted.
 fn check(frame: u32, row: &Row, above: &[Row]) -> Result<(), Fault>
     ensures checked { answer (λ u. u) result ≡ checked (checks frame row.now above.now) tt }
-    ensures fit { OnOk result (Fit most-above frame above.now) }
+    ensures fit { OnOk result (Fit most_above frame above.now) }
 {
     if !is_frame(frame) {
         return Err(Refusal::BadFrame.at(0));
@@ -51,8 +51,8 @@ fn check(frame: u32, row: &Row, above: &[Row]) -> Result<(), Fault>
 
 // The finding about a row below others, by a bound.
 pub fn find<B: Bound>(bound: &B, frame: u32, row: &Row, above: &[Row]) -> Result<Finding, Fault>
-    ensures found { answer tells result ≡ checked (checks frame row.now above.now) (row-finding (meaning bound.now) frame row.now above.now) }
-    ensures says { IfOk result (λ f. Row-says (meaning bound.now) frame row.now above.now (tells f)) }
+    ensures found { answer tells result ≡ checked (checks frame row.now above.now) (row_finding (B.meaning bound.now) frame row.now above.now) }
+    ensures says { IfOk result (λ f. RowSays (B.meaning bound.now) frame row.now above.now (tells f)) }
 {
     check(frame, row, above)?;
     Ok(search(bound, frame, row.work, above, row.window()))
@@ -61,7 +61,7 @@ pub fn find<B: Bound>(bound: &B, frame: u32, row: &Row, above: &[Row]) -> Result
 // The response time of a row below others, in exact steps: none where it misses its deadline.
 pub fn response_time(frame: u32, row: &Row, above: &[Row]) -> Result<Option<u64>, Fault>
     ensures responds { answer (λ o. o) result ≡ checked (checks frame row.now above.now) (response row.now above.now) }
-    ensures first { IfOk result (λ o. o ≡ option_map (λ t. t + row.now.jitter) (row-finding exact-steps frame row.now above.now).rest) }
+    ensures first { IfOk result (λ o. o ≡ option_map (λ t. t + row.now.jitter) (row_finding exact_steps frame row.now above.now).rest) }
     ensures fixed { IfOk result (λ o. Responds row.now above.now o) }
 {
     check(frame, row, above)?;

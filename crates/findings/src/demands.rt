@@ -2,9 +2,9 @@
 ghost use Rattle.std.specs.Prelude.{◌≡◌, ◌<◌, ◌≤◌};
 ghost use Rattle.rows.specs.Times.{horizon};
 ghost use Rattle.bounds.specs.Instants.{First};
-ghost use Rattle.findings.specs.Asking.{most-above};
+ghost use Rattle.findings.specs.Asking.{most_above};
 ghost use Rattle.findings.specs.Demand.{load, rests};
-ghost use Rattle.findings.specs.Points.{test-point};
+ghost use Rattle.findings.specs.Points.{test_point};
 ghost use Rattle.findings.specs.Fitting.{Fit};
 
 use bounds::Bound;
@@ -12,9 +12,9 @@ use rows::Row;
 
 // Whether all that is demanded up to the instant is served by it.
 pub(crate) fn is_rest<B: Bound>(bound: &B, frame: u32, own: u32, above: &[Row], at: u32) -> bool
-    requires fit { Fit most-above frame above.now }
+    requires fit { Fit most_above frame above.now }
     requires near { at ≤ horizon }
-    ensures { result ≡ rests (load (meaning bound.now) frame own above.now) at }
+    ensures { result ≡ rests (load (B.meaning bound.now) frame own above.now) at }
 {
     let mut demand = u64::from(frame) * u64::from(own);
     for row in above {
@@ -31,10 +31,10 @@ pub(crate) fn next_point<B: Bound>(
     after: u32,
     last: u32,
 ) -> u32
-    requires fit { Fit most-above frame above.now }
+    requires fit { Fit most_above frame above.now }
     requires before { after < last }
     requires near { last ≤ horizon }
-    ensures { First (test-point (meaning bound.now) above.now last) after last result }
+    ensures { First (test_point (B.meaning bound.now) above.now last) after last result }
 {
     let mut next = last;
     for row in above {

@@ -1,11 +1,11 @@
 // The findings of the rows of a table, counted into a list.
 ghost use Rattle.std.specs.Prelude.{◌≡◌, ◌≤◌, map, length, drop, MatchResult, OnOk};
 ghost use Rattle.rows.specs.Answers.{answer, checked};
-ghost use Rattle.rows.specs.Lists.{written, Stays-outside};
-ghost use Rattle.rows.specs.Times.{most-rows};
-ghost use Rattle.findings.specs.Asking.{size-checks, table-checks};
+ghost use Rattle.rows.specs.Lists.{written, StaysOutside};
+ghost use Rattle.rows.specs.Times.{most_rows};
+ghost use Rattle.findings.specs.Asking.{size_checks, table_checks};
 ghost use Rattle.findings.specs.Findings.{tells};
-ghost use Rattle.findings.specs.Tables.{findings-of, Table-says};
+ghost use Rattle.findings.specs.Tables.{findings_of, TableSays};
 ghost use Rattle.findings.specs.Fitting.{Fit, Sized};
 
 use crate::asking::standing;
@@ -16,7 +16,7 @@ use rows::{Fault, MOST_ROWS, Refusal, Row, is_frame};
 
 // Whether a table of so many rows on the frame can be counted into a list of so many places.
 pub fn check_size(frame: u32, rows: usize, places: usize) -> Result<(), Fault>
-    ensures checked { answer (λ u. u) result ≡ checked (size-checks frame rows places) tt }
+    ensures checked { answer (λ u. u) result ≡ checked (size_checks frame rows places) tt }
     ensures sized { OnOk result (Sized frame rows places) }
 {
     if !is_frame(frame) {
@@ -33,8 +33,8 @@ pub fn check_size(frame: u32, rows: usize, places: usize) -> Result<(), Fault>
 
 // What is checked of rows before they are counted into a list of so many places.
 fn check_table(frame: u32, rows: &[Row], places: usize) -> Result<(), Fault>
-    ensures checked { answer (λ u. u) result ≡ checked (table-checks frame rows.now places) tt }
-    ensures fit { OnOk result (Fit most-rows frame rows.now) }
+    ensures checked { answer (λ u. u) result ≡ checked (table_checks frame rows.now places) tt }
+    ensures fit { OnOk result (Fit most_rows frame rows.now) }
     ensures room { OnOk result (length rows.now ≤ places) }
 {
     check_size(frame, rows.len(), places)?;
@@ -47,10 +47,10 @@ fn check_table(frame: u32, rows: &[Row], places: usize) -> Result<(), Fault>
 
 // Puts the findings of the rows from a place on into the list, each at its row's place.
 fn fill<B: Bound>(bound: &B, frame: u32, rows: &[Row], from: usize, list: &mut [Finding])
-    requires fit { Fit most-rows frame rows.now }
+    requires fit { Fit most_rows frame rows.now }
     requires room { length rows.now ≤ length list.old }
-    ensures filled { map tells list.new ≡ written (map tells list.old) from (drop from (findings-of (meaning bound.now) frame rows.now)) }
-    ensures stay { Stays-outside from (length rows.now) list.old list.new }
+    ensures filled { map tells list.new ≡ written (map tells list.old) from (drop from (findings_of (B.meaning bound.now) frame rows.now)) }
+    ensures stay { StaysOutside from (length rows.now) list.old list.new }
 {
     for i in from..rows.len() {
         let row = &rows[i];
@@ -67,10 +67,10 @@ pub fn recount<B: Bound>(
     from: usize,
     list: &mut [Finding],
 ) -> Result<(), Fault>
-    ensures answered { answer (λ u. u) result ≡ checked (table-checks frame rows.now (length list.old)) tt }
-    ensures filled { MatchResult result (λ _. map tells list.new ≡ written (map tells list.old) from (drop from (findings-of (meaning bound.now) frame rows.now))) (λ _. list.new ≡ list.old) }
-    ensures stay { Stays-outside from (length rows.now) list.old list.new }
-    ensures says { OnOk result (Table-says (meaning bound.now) frame rows.now) }
+    ensures answered { answer (λ u. u) result ≡ checked (table_checks frame rows.now (length list.old)) tt }
+    ensures filled { MatchResult result (λ _. map tells list.new ≡ written (map tells list.old) from (drop from (findings_of (B.meaning bound.now) frame rows.now))) (λ _. list.new ≡ list.old) }
+    ensures stay { StaysOutside from (length rows.now) list.old list.new }
+    ensures says { OnOk result (TableSays (B.meaning bound.now) frame rows.now) }
 {
     check_table(frame, rows, list.len())?;
     fill(bound, frame, rows, from, list);

@@ -2,10 +2,10 @@
 ghost use Rattle.std.specs.Prelude.{◌≡◌, ◌<◌, ◌≤◌, true};
 ghost use Rattle.rows.specs.Times.{horizon};
 ghost use Rattle.bounds.specs.Instants.{First};
-ghost use Rattle.findings.specs.Asking.{most-above};
+ghost use Rattle.findings.specs.Asking.{most_above};
 ghost use Rattle.findings.specs.Demand.{load, rests};
 ghost use Rattle.findings.specs.Findings.{tells, finding, Says};
-ghost use Rattle.findings.specs.Fitting.{Fit, Once-then-on};
+ghost use Rattle.findings.specs.Fitting.{Fit, OnceThenOn};
 
 use crate::demands::{is_rest, next_point};
 use crate::verdicts::{Finding, Verdict};
@@ -15,12 +15,12 @@ use rows::Row;
 // The first rest after `low`, where `high` is a rest and so is every instant from the first one
 // to `high`.
 fn bisect<B: Bound>(bound: &B, frame: u32, own: u32, above: &[Row], low: u32, high: u32) -> u32
-    requires fit { Fit most-above frame above.now }
+    requires fit { Fit most_above frame above.now }
     requires before { low < high }
     requires near { high ≤ horizon }
-    requires rests { rests (load (meaning bound.now) frame own above.now) high ≡ true }
-    requires on { Once-then-on (rests (load (meaning bound.now) frame own above.now)) low high }
-    ensures { First (rests (load (meaning bound.now) frame own above.now)) low high result }
+    requires rests { rests (load (B.meaning bound.now) frame own above.now) high ≡ true }
+    requires on { OnceThenOn (rests (load (B.meaning bound.now) frame own above.now)) low high }
+    ensures { First (rests (load (B.meaning bound.now) frame own above.now)) low high result }
 {
     let mut none = low;
     let mut some = high;
@@ -39,12 +39,12 @@ fn bisect<B: Bound>(bound: &B, frame: u32, own: u32, above: &[Row], low: u32, hi
 // point to test point; at the first at which the row rests, the first rest lies between the point
 // before and it.
 pub(crate) fn search<B: Bound>(bound: &B, frame: u32, own: u32, above: &[Row], last: u32) -> Finding
-    requires fit { Fit most-above frame above.now }
+    requires fit { Fit most_above frame above.now }
     requires busy { 1 ≤ own }
     requires some { 1 ≤ last }
     requires near { last ≤ horizon }
-    ensures found { tells result ≡ finding (load (meaning bound.now) frame own above.now) last }
-    ensures says { Says (load (meaning bound.now) frame own above.now) last (tells result) }
+    ensures found { tells result ≡ finding (load (B.meaning bound.now) frame own above.now) last }
+    ensures says { Says (load (B.meaning bound.now) frame own above.now) last (tells result) }
 {
     let mut points = 0;
     let mut before = 0;

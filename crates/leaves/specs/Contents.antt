@@ -3,14 +3,14 @@ use Rattle.std.specs.Prelude.{◌≡◌, ℕ, ◌+◌, ◌^◌, ◌<◌, ◌≤�
 use Rattle.std.specs.List.{flat_map, AllByRecursion as All}
 use Rattle.rows.specs.declared.tasks.Row.{Row}
 use Rattle.rows.specs.Answers.{Passes}
-use Rattle.rows.specs.Counting.{on-frame}
-use Rattle.rows.specs.Times.{most-rows}
+use Rattle.rows.specs.Counting.{on_frame}
+use Rattle.rows.specs.Times.{most_rows}
 use Rattle.findings.specs.declared.verdicts.Finding.{Finding}
 use Rattle.leaves.specs.declared.entries.Heading.{Heading}
 use Rattle.leaves.specs.declared.entries.Entry.{Entry}
 use Rattle.leaves.specs.declared.entries.Entry.TheVariants.{Heading as heading, Row as row, Finding as finding, End as end}
-use Rattle.leaves.specs.Judging.{heading-checks, bad-finding}
-use Rattle.leaves.specs.Entries.{entry-bytes}
+use Rattle.leaves.specs.Judging.{heading_checks, bad_finding}
+use Rattle.leaves.specs.Entries.{entry_bytes}
 
 -- the contents of a leaf: its heading, the rows in rank order, and the findings in the same order
 pub record Contents : Type 0 where
@@ -24,7 +24,7 @@ entries c = heading c.heading ∷ map row c.rows ++ (map finding c.findings ++ e
 
 -- the bytes of entries, one after the other
 abbrev pub bytes_of : List Entry → List ℕ
-bytes_of es = flat_map entry-bytes es
+bytes_of es = flat_map entry_bytes es
 
 -- the bytes of a leaf
 abbrev pub encoding : Contents → List ℕ
@@ -32,13 +32,13 @@ encoding c = bytes_of (entries c)
 
 -- a finding that can be filed in so many bytes
 pub record Filable (f : Finding) : Type 0 where
-  pub good : bad-finding f ≡ false
+  pub good : bad_finding f ≡ false
   pub fits : f.points < 2 ^ 32
 
 -- contents that a leaf can hold: every number in its range, and as many findings as rows
 pub record Lawful (c : Contents) : Type 0 where
-  pub heading : Passes (heading-checks c.heading 0)
-  pub few : length c.rows ≤ most-rows
-  pub on : All (λ r. on-frame c.heading.frame r ≡ true) c.rows
+  pub heading : Passes (heading_checks c.heading 0)
+  pub few : length c.rows ≤ most_rows
+  pub on : All (λ r. on_frame c.heading.frame r ≡ true) c.rows
   pub good : All Filable c.findings
   pub even : length c.findings ≡ length c.rows

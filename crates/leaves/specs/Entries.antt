@@ -10,45 +10,45 @@ use Rattle.leaves.specs.declared.entries.Entry.TheVariants.{Heading as heading, 
 use Rattle.leaves.specs.Bytes.{four}
 
 -- the kinds of entries: the letters F, R, A and Z
-abbrev pub letter-F : ℕ
-letter-F = 70
+abbrev pub letter_F : ℕ
+letter_F = 70
 
-abbrev pub letter-R : ℕ
-letter-R = 82
+abbrev pub letter_R : ℕ
+letter_R = 82
 
-abbrev pub letter-A : ℕ
-letter-A = 65
+abbrev pub letter_A : ℕ
+letter_A = 65
 
-abbrev pub letter-Z : ℕ
-letter-Z = 90
+abbrev pub letter_Z : ℕ
+letter_Z = 90
 
 -- the body of a heading: the frame, the bound and the accuracy
-abbrev pub heading-body : Heading → List ℕ
-heading-body h = four h.frame ++ h.bound ∷ h.accuracy ∷ []
+abbrev pub heading_body : Heading → List ℕ
+heading_body h = four h.frame ++ h.bound ∷ h.accuracy ∷ []
 
 -- the body of a row: work, deadline, period and jitter
-abbrev pub row-body : Row → List ℕ
-row-body r = four r.work ++ (four r.deadline ++ (four r.period ++ four r.jitter))
+abbrev pub row_body : Row → List ℕ
+row_body r = four r.work ++ (four r.deadline ++ (four r.period ++ four r.jitter))
 
 -- the body of a finding: the first rest, 0 where the row misses, and the points
-abbrev pub finding-body : Finding → List ℕ
-finding-body f = four (unwrap_or (told f.verdict) 0) ++ four f.points
+abbrev pub finding_body : Finding → List ℕ
+finding_body f = four (unwrap_or (told f.verdict) 0) ++ four f.points
 
 -- the bytes of an entry: its letter and its body
-abbrev pub entry-bytes : Entry → List ℕ
-entry-bytes (heading h) = letter-F ∷ heading-body h
-entry-bytes (row r) = letter-R ∷ row-body r
-entry-bytes (finding f) = letter-A ∷ finding-body f
-entry-bytes (end n) = letter-Z ∷ four n
+abbrev pub entry_bytes : Entry → List ℕ
+entry_bytes (heading h) = letter_F ∷ heading_body h
+entry_bytes (row r) = letter_R ∷ row_body r
+entry_bytes (finding f) = letter_A ∷ finding_body f
+entry_bytes (end n) = letter_Z ∷ four n
 
 -- where the entries of a leaf stand: the heading at 0, in 7 bytes; each row in 17 bytes, after n others
-abbrev pub row-place : ℕ → ℕ
-row-place n = 7 + 17 * n
+abbrev pub row_place : ℕ → ℕ
+row_place n = 7 + 17 * n
 
 -- each finding in 9 bytes, after n rows and m other findings
-abbrev pub finding-place : ℕ → ℕ → ℕ
-finding-place n m = 7 + 17 * n + 9 * m
+abbrev pub finding_place : ℕ → ℕ → ℕ
+finding_place n m = 7 + 17 * n + 9 * m
 
 -- and the end in 5 bytes: so long is a leaf of n rows and as many findings
-abbrev pub leaf-length : ℕ → ℕ
-leaf-length n = 12 + 26 * n
+abbrev pub leaf_length : ℕ → ℕ
+leaf_length n = 12 + 26 * n

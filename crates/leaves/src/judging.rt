@@ -1,7 +1,7 @@
 // Which headings and findings can be filed.
 ghost use Rattle.std.specs.Prelude.{◌≡◌};
 ghost use Rattle.rows.specs.Answers.{answer, checked};
-ghost use Rattle.leaves.specs.Judging.{accuracy-fits, heading-checks, finding-checks};
+ghost use Rattle.leaves.specs.Judging.{accuracy_fits, heading_checks, finding_checks};
 
 use crate::entries::Heading;
 use bounds::FINEST;
@@ -15,7 +15,7 @@ impl Heading {
     // Whether the heading can be filed: bad frame, unknown bound, bad accuracy. A refusal tells the
     // position that the caller hands in.
     pub fn judge(&self, at: u32) -> Result<(), Fault>
-        ensures { answer (λ u. u) result ≡ checked (heading-checks self.now at) tt }
+        ensures { answer (λ u. u) result ≡ checked (heading_checks self.now at) tt }
     {
         if !is_frame(self.frame) {
             return Err(Refusal::BadFrame.at(at));
@@ -31,7 +31,7 @@ impl Heading {
 
     // Whether the accuracy is one that the bound can have.
     fn has_accuracy(&self) -> bool
-        ensures { result ≡ accuracy-fits self.now }
+        ensures { result ≡ accuracy_fits self.now }
     {
         if self.bound == 0 {
             return self.accuracy == 0;
@@ -43,7 +43,7 @@ impl Heading {
 // Whether a finding can be filed: it has points, and a first rest lies from 1 to the horizon. A
 // refusal tells the position that the caller hands in.
 pub fn judge_finding(finding: &Finding, at: u32) -> Result<(), Fault>
-    ensures { answer (λ u. u) result ≡ checked (finding-checks finding.now at) tt }
+    ensures { answer (λ u. u) result ≡ checked (finding_checks finding.now at) tt }
 {
     let rests = match finding.verdict {
         Verdict::Meets(rest) => 1 <= rest && rest <= HORIZON,

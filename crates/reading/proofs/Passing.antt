@@ -6,30 +6,30 @@ use Rattle.std.proofs.lemmas.Bool.{eqb-false, eqb-true, ltb-false}
 use Rattle.rows.specs.declared.tasks.Numbers.{Numbers}
 use Rattle.rows.specs.declared.tasks.Row.{Row}
 use Rattle.rows.specs.Answers.{Answer, gives, refuses, check, checked}
-use Rattle.rows.specs.Judging.{plain, row_of, frame-flaws, flaw-checks}
-use Rattle.rows.specs.Times.{horizon, most-rows}
+use Rattle.rows.specs.Judging.{plain, row_of, frame_flaws, flaw_checks}
+use Rattle.rows.specs.Times.{horizon, most_rows}
 use Rattle.rows.proofs.Checks.{first_passes, given_is}
-use Rattle.rows.proofs.SameRow.{row-of-plain}
+use Rattle.rows.proofs.SameRow.{row_of_plain}
 use Rattle.leaves.specs.declared.entries.Heading.{Heading}
 use Rattle.leaves.specs.declared.entries.Entry.{Entry}
 use Rattle.leaves.specs.declared.entries.Entry.TheVariants.{Heading as heading, Row as row, Finding as finding, End as end}
-use Rattle.leaves.specs.Entries.{entry-bytes, letter-F, letter-R, letter-A}
+use Rattle.leaves.specs.Entries.{entry_bytes, letter_F, letter_R, letter_A}
 use Rattle.leaves.specs.Contents.{Contents, bytes_of, encoding}
 use Rattle.reading.specs.declared.phases.Phase.{Phase}
 use Rattle.reading.specs.declared.phases.Phase.TheVariants.{Opening, Rows, Findings, Closed}
-use Rattle.reading.specs.Phases.{place_of, rows_in, frame-in, after, takes}
-use Rattle.reading.specs.Fields.{numbers-in, row_in, entry_in}
-use Rattle.reading.specs.Stepping.{entry-checks, next-answer}
-use Rattle.reading.specs.Runs.{Stands, after-all}
+use Rattle.reading.specs.Phases.{place_of, rows_in, frame_in, after, takes}
+use Rattle.reading.specs.Fields.{numbers_in, row_in, entry_in}
+use Rattle.reading.specs.Stepping.{entry_checks, next_answer}
+use Rattle.reading.specs.Runs.{Stands, after_all}
 use Rattle.reading.specs.Passed.{Passed}
-use Rattle.reading.specs.Whole.{Refused-at, Fits}
-use Rattle.reading.proofs.Turns.{opened, turn-R}
-use Rattle.reading.proofs.Standing.{Sound, opening-sound, in-turn, stands}
-use Rattle.reading.proofs.Walks.{well-push, after_push, bytes-push, sound-all, placed-all}
+use Rattle.reading.specs.Whole.{RefusedAt, Fits}
+use Rattle.reading.proofs.Turns.{opened, turn_R}
+use Rattle.reading.proofs.Standing.{Sound, opening_sound, in_turn, stands}
+use Rattle.reading.proofs.Walks.{well_push, after_push, bytes_push, sound_all, placed_all}
 use Rattle.reading.proofs.Wholes.{closing}
 
 -- an entry has a byte at least
-pub some_bytes : (e : Entry) → 1 ≤ length (entry-bytes e)
+pub some_bytes : (e : Entry) → 1 ≤ length (entry_bytes e)
 some_bytes (heading h) = omega arith
 some_bytes (row r) = omega arith
 some_bytes (finding f) = omega arith
@@ -41,40 +41,40 @@ passed_none bytes = record { before = []; split = refl; well = tt; leads = refl 
 
 module _ (bytes : List ℕ) (p : Phase) (rest : List ℕ) (passed : Passed bytes p rest) where
   -- the phase is sound, and its place is past the bytes of the entries
-  passed-sound : Sound p
-  passed-sound = subst Sound passed.leads (sound-all Opening passed.before opening-sound passed.well)
+  passed_sound : Sound p
+  passed_sound = subst Sound passed.leads (sound_all Opening passed.before opening_sound passed.well)
 
-  passed-place : length (bytes_of passed.before) ≡ place_of p
-  passed-place =
-      let placed = placed-all Opening passed.before opening-sound passed.well ∙ ap place_of passed.leads in
+  passed_place : length (bytes_of passed.before) ≡ place_of p
+  passed_place =
+      let placed = placed_all Opening passed.before opening_sound passed.well ∙ ap place_of passed.leads in
       omega arith
 
   -- one entry more
-  pub passed-more : (e : Entry) (left : List ℕ) (at : ℕ) → ((k : ℕ) → get_or bytes k 0 < 256) → rest ≡ entry-bytes e ++ left → gives (Some e) ≡ next-answer p at rest → Passed bytes (after p e) left
-  passed-more e left at small split answered =
+  pub passed_more : (e : Entry) (left : List ℕ) (at : ℕ) → ((k : ℕ) → get_or bytes k 0 < 256) → rest ≡ entry_bytes e ++ left → gives (Some e) ≡ next_answer p at rest → Passed bytes (after p e) left
+  passed_more e left at small split answered =
       let whole = passed.split ∙ ap (λ xs. bytes_of passed.before ++ xs) split in
-      let fit : (k : ℕ) → get_or (entry-bytes e ++ left) k 0 < 256 =
-      λ k. subst (λ b. b < 256) (ap (λ xs. get_or xs (length (bytes_of passed.before) + k) 0) whole ∙ get_or-append-add (bytes_of passed.before) (entry-bytes e ++ left) k 0) (small (length (bytes_of passed.before) + k)) in
-      let here = stands p e at left passed-sound fit (answered ∙ ap (next-answer p at) split) in
+      let fit : (k : ℕ) → get_or (entry_bytes e ++ left) k 0 < 256 =
+      λ k. subst (λ b. b < 256) (ap (λ xs. get_or xs (length (bytes_of passed.before) + k) 0) whole ∙ get_or-append-add (bytes_of passed.before) (entry_bytes e ++ left) k 0) (small (length (bytes_of passed.before) + k)) in
+      let here = stands p e at left passed_sound fit (answered ∙ ap (next_answer p at) split) in
       record {
         before = passed.before ++ e ∷ [];
-        split = whole ∙ bytes-push passed.before e left;
-        well = well-push Opening passed.before e passed.well (subst (λ q. Stands q e) (sym passed.leads) here);
+        split = whole ∙ bytes_push passed.before e left;
+        well = well_push Opening passed.before e passed.well (subst (λ q. Stands q e) (sym passed.leads) here);
         leads = after_push Opening passed.before e ∙ ap (λ q. after q e) passed.leads;
       }
 
   -- where a check refuses, the refusal fits
-  pub passed-refused : (n at : ℕ) → refuses n at ≡ next-answer p (place_of p) rest → Refused-at bytes n at
-  passed-refused n at refused = record {
+  pub passed_refused : (n at : ℕ) → refuses n at ≡ next_answer p (place_of p) rest → RefusedAt bytes n at
+  passed_refused n at refused = record {
     before = passed.before;
     rest = rest;
     split = passed.split;
     well = passed.well;
-    fails = ap (λ q. next-answer q (length (bytes_of passed.before)) rest) passed.leads ∙ ap (λ a. next-answer p a rest) passed-place ∙ sym refused;
+    fails = ap (λ q. next_answer q (length (bytes_of passed.before)) rest) passed.leads ∙ ap (λ a. next_answer p a rest) passed_place ∙ sym refused;
   }
 
 -- four numbers without a flaw are a row
-row_from : {A : Type 0} (n : Numbers) (h at : ℕ) (x y : A) → gives x ≡ checked (flaw-checks (frame-flaws h) n at) y → (r : Row) × (plain r ≡ n)
+row_from : {A : Type 0} (n : Numbers) (h at : ℕ) (x y : A) → gives x ≡ checked (flaw_checks (frame_flaws h) n at) y → (r : Row) × (plain r ≡ n)
 row_from n h at x y passes =
     let busy = first_passes (eqb n.work 0) 4 at x _ passes in
     let roomy = first_passes (ltb n.deadline (n.work + n.jitter)) 5 at x _ busy.1 in
@@ -95,42 +95,42 @@ row_from n h at x y passes =
     )
 
 -- an entry in the fields of any kind but R is there
-other-some : (a b c : Bool) (x y z : Entry) (o : Option Entry) → (b ≡ true → ⊥) → None ≡ cond a (Some x) (cond b o (cond c (Some y) (Some z))) → ⊥
-other-some true b c x y z o other none = let w : ◌≡◌ {A = ℕ} 0 1 = cc in omega arith
-other-some false true c x y z o other none = other refl
-other-some false false true x y z o other none = let w : ◌≡◌ {A = ℕ} 0 1 = cc in omega arith
-other-some false false false x y z o other none = let w : ◌≡◌ {A = ℕ} 0 1 = cc in omega arith
+other_some : (a b c : Bool) (x y z : Entry) (o : Option Entry) → (b ≡ true → ⊥) → None ≡ cond a (Some x) (cond b o (cond c (Some y) (Some z))) → ⊥
+other_some true b c x y z o other none = let w : ◌≡◌ {A = ℕ} 0 1 = cc in omega arith
+other_some false true c x y z o other none = other refl
+other_some false false true x y z o other none = let w : ◌≡◌ {A = ℕ} 0 1 = cc in omega arith
+other_some false false false x y z o other none = let w : ◌≡◌ {A = ℕ} 0 1 = cc in omega arith
 
 -- with a byte left, reading does not end
-more-comes : (p : Phase) (k at : ℕ) (xs : List ℕ) → gives None ≡ next-answer p at (k ∷ xs) → ⊥
-more-comes p k at xs ended =
+more_comes : (p : Phase) (k at : ℕ) (xs : List ℕ) → gives None ≡ next_answer p at (k ∷ xs) → ⊥
+more_comes p k at xs ended =
     let bytes = k ∷ xs in
-    let turn = in-turn p k at xs None ended in
+    let turn = in_turn p k at xs None ended in
     let table = ended ∙ opened p k at bytes turn in
-    let none = given_is (entry-checks p at bytes) None (entry_in k bytes) table in
-    other-some (eqb k letter-F) (eqb k letter-R) (eqb k letter-A) _ _ _ (row_in bytes) (λ is_row.
+    let none = given_is (entry_checks p at bytes) None (entry_in k bytes) table in
+    other_some (eqb k letter_F) (eqb k letter_R) (eqb k letter_A) _ _ _ (row_in bytes) (λ is_row.
     let r : k ≡ 82 = eqb-true k 82 is_row in
-    let left = ended ∙ turn-R p at bytes (subst (λ j. takes p j ≡ true) r turn) (ap Some (sym r)) in
-    let full = (first_passes (leb most-rows (rows_in p)) 9 at None _ left).1 in
+    let left = ended ∙ turn_R p at bytes (subst (λ j. takes p j ≡ true) r turn) (ap Some (sym r)) in
+    let full = (first_passes (leb most_rows (rows_in p)) 9 at None _ left).1 in
     let judged = (first_passes (ltb (length bytes) 17) 13 (at + length bytes) None _ full).1 in
-    let found = row_from (numbers-in bytes) (frame-in p) at None (row_in bytes) judged in
-    let some : row_in bytes ≡ Some (row found.0) = ap (λ n. option_map row (row_of n)) (sym found.1) ∙ ap (option_map row) (row-of-plain found.0) in
-    let again = given_is (flaw-checks (frame-flaws (frame-in p)) (numbers-in bytes) at) None (row_in bytes) judged in
+    let found = row_from (numbers_in bytes) (frame_in p) at None (row_in bytes) judged in
+    let some : row_in bytes ≡ Some (row found.0) = ap (λ n. option_map row (row_of n)) (sym found.1) ∙ ap (option_map row) (row_of_plain found.0) in
+    let again = given_is (flaw_checks (frame_flaws (frame_in p)) (numbers_in bytes) at) None (row_in bytes) judged in
     let w : ◌≡◌ {A = ℕ} 0 1 = cc in omega arith) none
 
 -- where reading ends, the leaf is closed, and no byte is left
-pub record At-end (p : Phase) (rest : List ℕ) : Type 0 where
+pub record AtEnd (p : Phase) (rest : List ℕ) : Type 0 where
   pub head : Heading
   pub total : ℕ
   pub closed : p ≡ Closed head total
   pub none : rest ≡ []
 
-pub at-end : (p : Phase) (rest : List ℕ) (at : ℕ) → gives None ≡ next-answer p at rest → At-end p rest
-at-end Opening [] at ended = absurd (let w : ◌≡◌ {A = ℕ} 0 1 = cc in omega arith)
-at-end (Rows h n) [] at ended = absurd (let w : ◌≡◌ {A = ℕ} 0 1 = cc in omega arith)
-at-end (Findings h n m) [] at ended = absurd (let w : ◌≡◌ {A = ℕ} 0 1 = cc in omega arith)
-at-end (Closed h n) [] at ended = record { head = h; total = n; closed = refl; none = refl }
-at-end p (k ∷ xs) at ended = absurd (more-comes p k at xs ended)
+pub at_end : (p : Phase) (rest : List ℕ) (at : ℕ) → gives None ≡ next_answer p at rest → AtEnd p rest
+at_end Opening [] at ended = absurd (let w : ◌≡◌ {A = ℕ} 0 1 = cc in omega arith)
+at_end (Rows h n) [] at ended = absurd (let w : ◌≡◌ {A = ℕ} 0 1 = cc in omega arith)
+at_end (Findings h n m) [] at ended = absurd (let w : ◌≡◌ {A = ℕ} 0 1 = cc in omega arith)
+at_end (Closed h n) [] at ended = record { head = h; total = n; closed = refl; none = refl }
+at_end p (k ∷ xs) at ended = absurd (more_comes p k at xs ended)
 
 -- at the end of a closed leaf, its contents fit
 pub record Ended (bytes : List ℕ) (g : Heading) (t : ℕ) : Type 0 where
@@ -139,7 +139,7 @@ pub record Ended (bytes : List ℕ) (g : Heading) (t : ℕ) : Type 0 where
   pub head : contents.heading ≡ g
   pub total : length contents.rows ≡ t
 
-pub passed-all : (bytes : List ℕ) (g : Heading) (t : ℕ) → Passed bytes (Closed g t) [] → Ended bytes g t
-passed-all bytes g t passed =
+pub passed_all : (bytes : List ℕ) (g : Heading) (t : ℕ) → Passed bytes (Closed g t) [] → Ended bytes g t
+passed_all bytes g t passed =
     let c = closing passed.before g t passed.well passed.leads in
     record { contents = c.contents; fits = (c.lawful, passed.split ∙ append-nil (bytes_of passed.before) ∙ ap bytes_of c.same); head = c.head; total = c.total }

@@ -5,13 +5,13 @@ use Rattle.rows.specs.Answers.{answer, checked}
 use Rattle.leaves.specs.declared.entries.Entry.{Entry}
 use Rattle.leaves.specs.declared.entries.Entry.TheVariants.{Heading as heading, Row as row, Finding as finding, End as end}
 use Rattle.leaves.specs.Bytes.{number_at}
-use Rattle.leaves.specs.Entries.{entry-bytes}
+use Rattle.leaves.specs.Entries.{entry_bytes}
 use Rattle.reading.specs.declared.phases.Phase.{Phase}
 use Rattle.reading.specs.declared.phases.Phase.TheVariants.{Opening, Rows, Findings, Closed}
-use Rattle.reading.specs.Phases.{rows_in, findings-in, frame-in, place_of, takes, after}
-use Rattle.reading.specs.Fields.{first_of, kind, heading-in, row_in, finding-in, entry_in}
-use Rattle.reading.specs.Kinds.{F-checks, R-checks, A-checks, Z-checks}
-use Rattle.reading.specs.Stepping.{entry-checks, next-answer, moved, read-bytes, Stepped}
+use Rattle.reading.specs.Phases.{rows_in, findings_in, frame_in, place_of, takes, after}
+use Rattle.reading.specs.Fields.{first_of, kind, heading_in, row_in, finding_in, entry_in}
+use Rattle.reading.specs.Kinds.{FChecks, RChecks, AChecks, ZChecks}
+use Rattle.reading.specs.Stepping.{entry_checks, next_answer, moved, read_bytes, Stepped}
 
 -- bytes with a first one are that one and the others
 pub begins : (bytes : List ℕ) (k : ℕ) → Some k ≡ first_of bytes → bytes ≡ k ∷ drop 1 bytes
@@ -19,32 +19,32 @@ begins [] k starts = absurd (let z : ◌≡◌ {A = ℕ} 0 1 = cc in omega arith
 begins (b ∷ bytes) k starts = let same : b ≡ k = cc in ap (λ x. x ∷ bytes) same
 
 -- a phase that takes some kind is not closed
-pub opened : (p : Phase) (k at : ℕ) (bytes : List ℕ) → takes p k ≡ true → next-answer p at bytes ≡ checked (entry-checks p at bytes) (entry_in (kind bytes) bytes)
+pub opened : (p : Phase) (k at : ℕ) (bytes : List ℕ) → takes p k ≡ true → next_answer p at bytes ≡ checked (entry_checks p at bytes) (entry_in (kind bytes) bytes)
 opened Opening k at bytes turn = refl
 opened (Rows h n) k at bytes turn = refl
 opened (Findings h n m) k at bytes turn = refl
 opened (Closed h n) k at bytes turn = absurd (let z : ◌≡◌ {A = ℕ} 0 1 = cc in omega arith)
 
 module _ (p : Phase) (at : ℕ) (bytes : List ℕ) where
-  pub turn-F : takes p 70 ≡ true → Some 70 ≡ first_of bytes → next-answer p at bytes
-      ≡ checked (F-checks at bytes) (Some (heading (heading-in bytes)))
-  turn-F turn starts = opened p 70 at bytes turn ∙ subst (λ b. checked (entry-checks p at b) (entry_in (kind b) b) ≡ checked (F-checks at b) (Some (heading (heading-in b)))) (sym (begins bytes 70 starts)) (rw turn)
+  pub turn_F : takes p 70 ≡ true → Some 70 ≡ first_of bytes → next_answer p at bytes
+      ≡ checked (FChecks at bytes) (Some (heading (heading_in bytes)))
+  turn_F turn starts = opened p 70 at bytes turn ∙ subst (λ b. checked (entry_checks p at b) (entry_in (kind b) b) ≡ checked (FChecks at b) (Some (heading (heading_in b)))) (sym (begins bytes 70 starts)) (rw turn)
 
-  pub turn-R : takes p 82 ≡ true → Some 82 ≡ first_of bytes → next-answer p at bytes
-      ≡ checked (R-checks (frame-in p) (rows_in p) at bytes) (row_in bytes)
-  turn-R turn starts = opened p 82 at bytes turn ∙ subst (λ b. checked (entry-checks p at b) (entry_in (kind b) b) ≡ checked (R-checks (frame-in p) (rows_in p) at b) (row_in b)) (sym (begins bytes 82 starts)) (rw turn)
+  pub turn_R : takes p 82 ≡ true → Some 82 ≡ first_of bytes → next_answer p at bytes
+      ≡ checked (RChecks (frame_in p) (rows_in p) at bytes) (row_in bytes)
+  turn_R turn starts = opened p 82 at bytes turn ∙ subst (λ b. checked (entry_checks p at b) (entry_in (kind b) b) ≡ checked (RChecks (frame_in p) (rows_in p) at b) (row_in b)) (sym (begins bytes 82 starts)) (rw turn)
 
-  pub turn-A : takes p 65 ≡ true → Some 65 ≡ first_of bytes → next-answer p at bytes
-      ≡ checked (A-checks (rows_in p) (findings-in p) at bytes) (Some (finding (finding-in bytes)))
-  turn-A turn starts = opened p 65 at bytes turn ∙ subst (λ b. checked (entry-checks p at b) (entry_in (kind b) b) ≡ checked (A-checks (rows_in p) (findings-in p) at b) (Some (finding (finding-in b)))) (sym (begins bytes 65 starts)) (rw turn)
+  pub turn_A : takes p 65 ≡ true → Some 65 ≡ first_of bytes → next_answer p at bytes
+      ≡ checked (AChecks (rows_in p) (findings_in p) at bytes) (Some (finding (finding_in bytes)))
+  turn_A turn starts = opened p 65 at bytes turn ∙ subst (λ b. checked (entry_checks p at b) (entry_in (kind b) b) ≡ checked (AChecks (rows_in p) (findings_in p) at b) (Some (finding (finding_in b)))) (sym (begins bytes 65 starts)) (rw turn)
 
-  pub turn-Z : takes p 90 ≡ true → Some 90 ≡ first_of bytes → next-answer p at bytes
-      ≡ checked (Z-checks (rows_in p) (findings-in p) at bytes) (Some (end (number_at 1 bytes)))
-  turn-Z turn starts = opened p 90 at bytes turn ∙ subst (λ b. checked (entry-checks p at b) (entry_in (kind b) b) ≡ checked (Z-checks (rows_in p) (findings-in p) at b) (Some (end (number_at 1 b)))) (sym (begins bytes 90 starts)) (rw turn)
+  pub turn_Z : takes p 90 ≡ true → Some 90 ≡ first_of bytes → next_answer p at bytes
+      ≡ checked (ZChecks (rows_in p) (findings_in p) at bytes) (Some (end (number_at 1 bytes)))
+  turn_Z turn starts = opened p 90 at bytes turn ∙ subst (λ b. checked (entry_checks p at b) (entry_in (kind b) b) ≡ checked (ZChecks (rows_in p) (findings_in p) at b) (Some (end (number_at 1 b)))) (sym (begins bytes 90 starts)) (rw turn)
 
 -- a step: the entry that was taken leads to the phase after it, and stood before the bytes left
-pub stepped : {p p' : Phase} {bytes bytes' : List ℕ} (r : Result (Option Entry) Fault) → answer (λ o. o) r ≡ next-answer p (place_of p) bytes
-    → IfOk r (λ o. (e : Entry) × (o ≡ Some e) × (p' ≡ after p e) × (bytes ≡ entry-bytes e ++ bytes')) → IfErr r (λ _. (p' ≡ p) × (bytes' ≡ bytes)) → Stepped p bytes r p' bytes'
+pub stepped : {p p' : Phase} {bytes bytes' : List ℕ} (r : Result (Option Entry) Fault) → answer (λ o. o) r ≡ next_answer p (place_of p) bytes
+    → IfOk r (λ o. (e : Entry) × (o ≡ Some e) × (p' ≡ after p e) × (bytes ≡ entry_bytes e ++ bytes')) → IfErr r (λ _. (p' ≡ p) × (bytes' ≡ bytes)) → Stepped p bytes r p' bytes'
 stepped {p} {p'} {bytes} {bytes'} (Ok o) answered taken back =
-    record { answered = answered; phase = taken.2 ∙ sym (ap (moved p) taken.1); left = taken.3 ∙ sym (ap (λ x. read-bytes x ++ bytes') taken.1) }
+    record { answered = answered; phase = taken.2 ∙ sym (ap (moved p) taken.1); left = taken.3 ∙ sym (ap (λ x. read_bytes x ++ bytes') taken.1) }
 stepped (Err e) answered taken back = record { answered = answered; phase = back.0; left = back.1 }

@@ -10,7 +10,7 @@ use Rattle.leaves.specs.declared.entries.Heading.{Heading}
 use Rattle.leaves.specs.declared.entries.Entry.{Entry}
 use Rattle.leaves.specs.declared.entries.Entry.TheVariants.{Heading as heading, Row as row, Finding as finding, End as end}
 use Rattle.leaves.specs.Bytes.{number_at}
-use Rattle.leaves.specs.Entries.{letter-F, letter-R, letter-A, letter-Z}
+use Rattle.leaves.specs.Entries.{letter_F, letter_R, letter_A, letter_Z}
 
 -- the first byte, if there is one
 abbrev pub first_of : List ℕ → Option ℕ
@@ -27,37 +27,37 @@ abbrev pub kind : List ℕ → ℕ
 kind bytes = slice_index bytes 0
 
 -- the letter of some kind of entry
-abbrev pub is-kind : ℕ → Bool
-is-kind k = k == letter-F || (k == letter-R || (k == letter-A || k == letter-Z))
+abbrev pub is_kind : ℕ → Bool
+is_kind k = k == letter_F || (k == letter_R || (k == letter_A || k == letter_Z))
 
 -- how long an entry of a kind is, with its kind byte
 abbrev pub entry_length : ℕ → ℕ
-entry_length k = cond (k == letter-F) 7 (cond (k == letter-R) 17 (cond (k == letter-A) 9 5))
+entry_length k = cond (k == letter_F) 7 (cond (k == letter_R) 17 (cond (k == letter_A) 9 5))
 
 -- the heading in the fields of F
-abbrev pub heading-in : List ℕ → Heading
-heading-in bytes = record { frame = number_at 1 bytes; bound = slice_index bytes 5; accuracy = slice_index bytes 6 }
+abbrev pub heading_in : List ℕ → Heading
+heading_in bytes = record { frame = number_at 1 bytes; bound = slice_index bytes 5; accuracy = slice_index bytes 6 }
 
 -- the four numbers in the fields of R
-abbrev pub numbers-in : List ℕ → Numbers
-numbers-in bytes = record { work = number_at 1 bytes; deadline = number_at 5 bytes; period = number_at 9 bytes; jitter = number_at 13 bytes }
+abbrev pub numbers_in : List ℕ → Numbers
+numbers_in bytes = record { work = number_at 1 bytes; deadline = number_at 5 bytes; period = number_at 9 bytes; jitter = number_at 13 bytes }
 
 -- the row in the fields of R, where the numbers are one
 abbrev pub row_in : List ℕ → Option Entry
-row_in bytes = option_map row (row_of (numbers-in bytes))
+row_in bytes = option_map row (row_of (numbers_in bytes))
 
 -- the verdict that a first rest tells: 0 is a miss
-abbrev pub verdict-of : ℕ → Verdict
-verdict-of t = cond (t == 0) Misses (Meets t)
+abbrev pub verdict_of : ℕ → Verdict
+verdict_of t = cond (t == 0) Misses (Meets t)
 
 -- the finding in the fields of A
-abbrev pub finding-in : List ℕ → Finding
-finding-in bytes = record { verdict = verdict-of (number_at 1 bytes); points = number_at 5 bytes }
+abbrev pub finding_in : List ℕ → Finding
+finding_in bytes = record { verdict = verdict_of (number_at 1 bytes); points = number_at 5 bytes }
 
 -- the entry in the fields of a kind
 abbrev pub entry_in : ℕ → List ℕ → Option Entry
 entry_in k bytes =
-    cond (k == letter-F) (Some (heading (heading-in bytes)))
-    (cond (k == letter-R) (row_in bytes)
-    (cond (k == letter-A) (Some (finding (finding-in bytes)))
+    cond (k == letter_F) (Some (heading (heading_in bytes)))
+    (cond (k == letter_R) (row_in bytes)
+    (cond (k == letter_A) (Some (finding (finding_in bytes)))
     (Some (end (number_at 1 bytes)))))

@@ -5,7 +5,7 @@ use Rattle.rows.specs.Answers.{Answer, gives, refuses}
 use Rattle.rows.specs.Refusals.{number}
 use Rattle.leaves.specs.declared.entries.Heading.{Heading}
 use Rattle.leaves.specs.declared.entries.Entry.TheVariants.{Heading as heading, Row as row, Finding as finding}
-use Rattle.leaves.specs.Entries.{entry-bytes}
+use Rattle.leaves.specs.Entries.{entry_bytes}
 use Rattle.leaves.specs.Contents.{Contents, bytes_of}
 use Rattle.reading.specs.declared.contents.Leaf.{Leaf}
 
@@ -17,7 +17,7 @@ pub record Holds (leaf : Leaf) (c : Contents) : Type 0 where
 
 -- the parts of a leaf stand in the bytes that it was read from, one after the other
 abbrev pub Parts : List ℕ → Leaf → Type 0
-Parts bytes leaf = (rest : List ℕ) × (bytes ≡ entry-bytes (heading leaf.heading) ++ (leaf.rows.now ++ (leaf.findings.now ++ rest)))
+Parts bytes leaf = (rest : List ℕ) × (bytes ≡ entry_bytes (heading leaf.heading) ++ (leaf.rows.now ++ (leaf.findings.now ++ rest)))
 
 -- what reading answers is the answer: a leaf that holds the contents, or the refusal by its number and place
 abbrev pub Reads : Result Leaf Fault → Answer Contents → Type 0

@@ -2,7 +2,7 @@
 use Rattle.std.specs.Prelude.{ℕ, ◌+◌, Bool, false, ◌||◌, ◌==◌}
 use Rattle.leaves.specs.declared.entries.Entry.{Entry}
 use Rattle.leaves.specs.declared.entries.Entry.TheVariants.{Heading as heading, Row as row, Finding as finding, End as end}
-use Rattle.leaves.specs.Entries.{letter-F, letter-R, letter-A, letter-Z, row-place, finding-place, leaf-length}
+use Rattle.leaves.specs.Entries.{letter_F, letter_R, letter_A, letter_Z, row_place, finding_place, leaf_length}
 use Rattle.reading.specs.declared.phases.Phase.{Phase}
 use Rattle.reading.specs.declared.phases.Phase.TheVariants.{Opening, Rows, Findings, Closed}
 
@@ -13,31 +13,31 @@ rows_in (Rows h n) = n
 rows_in (Findings h n m) = n
 rows_in (Closed h n) = n
 
-abbrev pub findings-in : Phase → ℕ
-findings-in Opening = 0
-findings-in (Rows h n) = 0
-findings-in (Findings h n m) = m
-findings-in (Closed h n) = n
+abbrev pub findings_in : Phase → ℕ
+findings_in Opening = 0
+findings_in (Rows h n) = 0
+findings_in (Findings h n m) = m
+findings_in (Closed h n) = n
 
 -- the frame that the heading told
-abbrev pub frame-in : Phase → ℕ
-frame-in Opening = 0
-frame-in (Rows h n) = h.frame
-frame-in (Findings h n m) = h.frame
-frame-in (Closed h n) = h.frame
+abbrev pub frame_in : Phase → ℕ
+frame_in Opening = 0
+frame_in (Rows h n) = h.frame
+frame_in (Findings h n m) = h.frame
+frame_in (Closed h n) = h.frame
 
 -- the place at which the next entry begins
 abbrev pub place_of : Phase → ℕ
 place_of Opening = 0
-place_of (Rows h n) = row-place n
-place_of (Findings h n m) = finding-place n m
-place_of (Closed h n) = leaf-length n
+place_of (Rows h n) = row_place n
+place_of (Findings h n m) = finding_place n m
+place_of (Closed h n) = leaf_length n
 
 -- the kinds of entries that belong in a phase
 abbrev pub takes : Phase → ℕ → Bool
-takes Opening k = k == letter-F
-takes (Rows h n) k = k == letter-R || (k == letter-A || k == letter-Z)
-takes (Findings h n m) k = k == letter-A || k == letter-Z
+takes Opening k = k == letter_F
+takes (Rows h n) k = k == letter_R || (k == letter_A || k == letter_Z)
+takes (Findings h n m) k = k == letter_A || k == letter_Z
 takes (Closed h n) k = false
 
 -- the phase after an entry; one that does not belong in the phase leaves it

@@ -1,7 +1,7 @@
 // A reader of leaves.
 ghost use Rattle.std.specs.Prelude.{◌≡◌, ◌≤◌};
-ghost use Rattle.rows.specs.Times.{most-rows};
-ghost use Rattle.reading.specs.Phases.{place_of, rows_in, findings-in};
+ghost use Rattle.rows.specs.Times.{most_rows};
+ghost use Rattle.reading.specs.Phases.{place_of, rows_in, findings_in};
 
 use crate::phases::Phase;
 
@@ -12,6 +12,6 @@ pub struct Reader<'a> {
     pub(crate) place: u32,
     pub(crate) phase: Phase,
     ghost placed: { place ≡ place_of phase },
-    ghost few: { rows_in phase ≤ most-rows },
-    ghost orderly: { findings-in phase ≤ rows_in phase },
+    ghost few: { rows_in phase ≤ most_rows },
+    ghost orderly: { findings_in phase ≤ rows_in phase },
 }

@@ -1,12 +1,12 @@
 // One entry after the other.
 ghost use Rattle.std.specs.Prelude.{◌≡◌, ℕ, ◌+◌, ◌≤◌, ◌++◌, length, drop, IfOk, Some, OnErr};
 ghost use Rattle.rows.specs.Answers.{answer, checked};
-ghost use Rattle.rows.specs.Times.{most-rows};
+ghost use Rattle.rows.specs.Times.{most_rows};
 ghost use Rattle.leaves.specs.Bytes.{four, number_at};
-ghost use Rattle.leaves.specs.Entries.{heading-body, row-body, finding-body, row-place, finding-place};
-ghost use Rattle.reading.specs.Fields.{first_of, heading-in, row_in, finding-in};
-ghost use Rattle.reading.specs.Kinds.{F-checks, R-checks, A-checks, Z-checks};
-ghost use Rattle.reading.specs.Phases.{place_of, rows_in, findings-in};
+ghost use Rattle.leaves.specs.Entries.{heading_body, row_body, finding_body, row_place, finding_place};
+ghost use Rattle.reading.specs.Fields.{first_of, heading_in, row_in, finding_in};
+ghost use Rattle.reading.specs.Kinds.{FChecks, RChecks, AChecks, ZChecks};
+ghost use Rattle.reading.specs.Phases.{place_of, rows_in, findings_in};
 ghost use Rattle.reading.specs.Stepping.{Stepped};
 
 use crate::entries::{end_entry, finding_entry, heading_entry, row_entry};
@@ -89,8 +89,8 @@ impl<'a> Reader<'a> {
     // The heading, into the rows.
     fn heading(&mut self) -> Result<Option<Entry>, Fault>
         requires opening { place_of self.old.phase ≡ 0 }
-        ensures judged { answer (λ o. o) result ≡ checked (F-checks (place_of self.old.phase) self.old.rest.now) (Some (Entry.Heading (heading-in self.old.rest.now))) }
-        ensures taken { IfOk result (λ o. (h : Heading) × (o ≡ Some (Entry.Heading h)) × (self.new.phase ≡ Phase.Rows h 0) × (drop 1 self.old.rest.now ≡ heading-body h ++ self.new.rest.now)) }
+        ensures judged { answer (λ o. o) result ≡ checked (FChecks (place_of self.old.phase) self.old.rest.now) (Some (Entry.Heading (heading_in self.old.rest.now))) }
+        ensures taken { IfOk result (λ o. (h : Heading) × (o ≡ Some (Entry.Heading h)) × (self.new.phase ≡ Phase.Rows h 0) × (drop 1 self.old.rest.now ≡ heading_body h ++ self.new.rest.now)) }
         ensures refused { OnErr result (self.new ≡ self.old) }
     {
         let heading = heading_entry(self.rest, self.place)?;
@@ -100,9 +100,9 @@ impl<'a> Reader<'a> {
 
     // A row after so many others.
     fn row(&mut self, heading: Heading, rows: u8) -> Result<Option<Entry>, Fault>
-        requires placed { place_of self.old.phase ≡ row-place rows }
-        ensures judged { answer (λ o. o) result ≡ checked (R-checks heading.frame rows (place_of self.old.phase) self.old.rest.now) (row_in self.old.rest.now) }
-        ensures taken { IfOk result (λ o. (row : Row) × (o ≡ Some (Entry.Row row)) × (self.new.phase ≡ Phase.Rows heading (rows + 1)) × (drop 1 self.old.rest.now ≡ row-body row ++ self.new.rest.now)) }
+        requires placed { place_of self.old.phase ≡ row_place rows }
+        ensures judged { answer (λ o. o) result ≡ checked (RChecks heading.frame rows (place_of self.old.phase) self.old.rest.now) (row_in self.old.rest.now) }
+        ensures taken { IfOk result (λ o. (row : Row) × (o ≡ Some (Entry.Row row)) × (self.new.phase ≡ Phase.Rows heading (rows + 1)) × (drop 1 self.old.rest.now ≡ row_body row ++ self.new.rest.now)) }
         ensures refused { OnErr result (self.new ≡ self.old) }
     {
         let row = row_entry(self.rest, self.place, heading.frame, rows)?;
@@ -113,10 +113,10 @@ impl<'a> Reader<'a> {
 
     // The finding of a row after so many others, into the findings.
     fn finding(&mut self, heading: Heading, rows: u8, findings: u8) -> Result<Option<Entry>, Fault>
-        requires placed { place_of self.old.phase ≡ finding-place rows findings }
-        requires few { rows ≤ most-rows }
-        ensures judged { answer (λ o. o) result ≡ checked (A-checks rows findings (place_of self.old.phase) self.old.rest.now) (Some (Entry.Finding (finding-in self.old.rest.now))) }
-        ensures taken { IfOk result (λ o. (f : Finding) × (o ≡ Some (Entry.Finding f)) × (self.new.phase ≡ Phase.Findings heading rows (findings + 1)) × (drop 1 self.old.rest.now ≡ finding-body f ++ self.new.rest.now)) }
+        requires placed { place_of self.old.phase ≡ finding_place rows findings }
+        requires few { rows ≤ most_rows }
+        ensures judged { answer (λ o. o) result ≡ checked (AChecks rows findings (place_of self.old.phase) self.old.rest.now) (Some (Entry.Finding (finding_in self.old.rest.now))) }
+        ensures taken { IfOk result (λ o. (f : Finding) × (o ≡ Some (Entry.Finding f)) × (self.new.phase ≡ Phase.Findings heading rows (findings + 1)) × (drop 1 self.old.rest.now ≡ finding_body f ++ self.new.rest.now)) }
         ensures refused { OnErr result (self.new ≡ self.old) }
     {
         let finding = finding_entry(self.rest, self.place, rows, findings)?;
@@ -134,10 +134,10 @@ impl<'a> Reader<'a> {
 
     // The end after so many rows and findings.
     fn end(&mut self, heading: Heading, rows: u8, findings: u8) -> Result<Option<Entry>, Fault>
-        requires placed { place_of self.old.phase ≡ finding-place rows findings }
-        requires few { rows ≤ most-rows }
+        requires placed { place_of self.old.phase ≡ finding_place rows findings }
+        requires few { rows ≤ most_rows }
         requires orderly { findings ≤ rows }
-        ensures judged { answer (λ o. o) result ≡ checked (Z-checks rows findings (place_of self.old.phase) self.old.rest.now) (Some (Entry.End (number_at 1 self.old.rest.now))) }
+        ensures judged { answer (λ o. o) result ≡ checked (ZChecks rows findings (place_of self.old.phase) self.old.rest.now) (Some (Entry.End (number_at 1 self.old.rest.now))) }
         ensures taken { IfOk result (λ o. (n : ℕ) × (o ≡ Some (Entry.End n)) × (self.new.phase ≡ Phase.Closed heading rows) × (drop 1 self.old.rest.now ≡ four n ++ self.new.rest.now)) }
         ensures refused { OnErr result (self.new ≡ self.old) }
     {
@@ -150,8 +150,8 @@ impl<'a> Reader<'a> {
     fn move_on(&mut self, size: u8, phase: Phase)
         requires room { size ≤ length self.old.rest.now }
         requires placed { place_of phase ≡ place_of self.old.phase + size }
-        requires few { rows_in phase ≤ most-rows }
-        requires orderly { findings-in phase ≤ rows_in phase }
+        requires few { rows_in phase ≤ most_rows }
+        requires orderly { findings_in phase ≤ rows_in phase }
         ensures rest { self.new.rest.now ≡ drop size self.old.rest.now }
         ensures phase { self.new.phase ≡ phase }
     {

@@ -2,7 +2,7 @@
 ghost use Rattle.std.specs.Prelude.{◌≡◌, ◌++◌, IfOk};
 ghost use Rattle.rows.specs.Answers.{Answer};
 ghost use Rattle.leaves.specs.Contents.{Contents};
-ghost use Rattle.reading.specs.Whole.{Fits, Fits-once};
+ghost use Rattle.reading.specs.Whole.{Fits, FitsOnce};
 ghost use Rattle.reading.specs.Leaves.{Counted, Reads, Parts};
 
 use crate::contents::Leaf;
@@ -28,7 +28,7 @@ fn read_all(bytes: &[u8]) -> Result<(Heading, u8), Fault>
 pub fn read(bytes: &[u8]) -> Result<Leaf<'_>, Fault>
     ensures fits { (a : Answer Contents) × Fits bytes.now a × Reads result a }
     ensures only { (a : Answer Contents) → Fits bytes.now a → Reads result a }
-    ensures once { Fits-once }
+    ensures once { FitsOnce }
     ensures parts { IfOk result (Parts bytes.now) }
 {
     let (heading, rows) = read_all(bytes)?;

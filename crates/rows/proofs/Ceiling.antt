@@ -7,38 +7,38 @@ use Rattle.rows.specs.Times.{ceiling}
 use Rattle.rows.specs.Counting.{steps, Jobs}
 
 -- q b's cover a, and one fewer do not
-pub ceiling-is : (a b q : ℕ) → 0 < b → a ≤ q * b → q * b < a + b → ceiling a b ≡ q
-ceiling-is a b q some covers tight =
+pub ceiling_is : (a b q : ℕ) → 0 < b → a ≤ q * b → q * b < a + b → ceiling a b ≡ q
+ceiling_is a b q some covers tight =
     let left : (a + (b - 1)) - q * b < b = omega arith in
     let whole : a + (b - 1) ≡ q * b + ((a + (b - 1)) - q * b) = omega arith in
     ap (λ n. n / b) whole ∙ div-mul-add q b _ left
 
-pub ceiling-covers : (a b : ℕ) → 0 < b → a ≤ ceiling a b * b
-ceiling-covers a b some = omega (arith, div-add-mod' (a + (b - 1)) b, mod_below (a + (b - 1)) b some)
+pub ceiling_covers : (a b : ℕ) → 0 < b → a ≤ ceiling a b * b
+ceiling_covers a b some = omega (arith, div-add-mod' (a + (b - 1)) b, mod_below (a + (b - 1)) b some)
 
-pub ceiling-tight : (a b : ℕ) → 0 < b → ceiling a b * b < a + b
-ceiling-tight a b some = omega (arith, div-add-mod' (a + (b - 1)) b)
+pub ceiling_tight : (a b : ℕ) → 0 < b → ceiling a b * b < a + b
+ceiling_tight a b some = omega (arith, div-add-mod' (a + (b - 1)) b)
 
 -- it never falls
-pub ceiling-grows : (a c b : ℕ) → 0 < b → a ≤ c → ceiling a b ≤ ceiling c b
-ceiling-grows a c b some order =
-    let more = lt_of_mul-lt-mul_right b {m = ceiling a b} {n = ceiling c b + 1} (omega (arith, ceiling-tight a b some, ceiling-covers c b some)) in
+pub ceiling_grows : (a c b : ℕ) → 0 < b → a ≤ c → ceiling a b ≤ ceiling c b
+ceiling_grows a c b some order =
+    let more = lt_of_mul-lt-mul_right b {m = ceiling a b} {n = ceiling c b + 1} (omega (arith, ceiling_tight a b some, ceiling_covers c b some)) in
     omega arith
 
 -- the quotient, and one more where something is left over
-pub ceiling-by-quotient : (a b : ℕ) → 0 < b → a / b + min 1 (a % b) ≡ ceiling a b
-ceiling-by-quotient a b some =
+pub ceiling_by_quotient : (a b : ℕ) → 0 < b → a / b + min 1 (a % b) ≡ ceiling a b
+ceiling_by_quotient a b some =
     let split = div-add-mod' a b in
     let low = mod_below a b some in
-    ⊎_elim (λ none. let e : min 1 (a % b) ≡ 0 = omega arith in rw e (sym (ceiling-is a b (a / b + 0) some (omega arith) (omega arith))))
-    (λ more. let e : min 1 (a % b) ≡ 1 = omega arith in rw e (sym (ceiling-is a b (a / b + 1) some (omega arith) (omega arith))))
+    ⊎_elim (λ none. let e : min 1 (a % b) ≡ 0 = omega arith in rw e (sym (ceiling_is a b (a / b + 0) some (omega arith) (omega arith))))
+    (λ more. let e : min 1 (a % b) ≡ 1 = omega arith in rw e (sym (ceiling_is a b (a / b + 1) some (omega arith) (omega arith))))
     (cases_lt (a % b) 1)
 
 -- the steps of a row are the work of as many jobs as it takes periods to cover the time
-pub steps-jobs : (r : Row) (t s : ℕ) → s ≡ steps r t → Jobs r t s
-steps-jobs r t s same = record {
+pub steps_jobs : (r : Row) (t s : ℕ) → s ≡ steps r t → Jobs r t s
+steps_jobs r t s same = record {
   jobs = ceiling (t + r.jitter) r.period;
   work = same;
-  cover = ceiling-covers (t + r.jitter) r.period (omega arith);
-  tight = ceiling-tight (t + r.jitter) r.period (omega arith);
+  cover = ceiling_covers (t + r.jitter) r.period (omega arith);
+  tight = ceiling_tight (t + r.jitter) r.period (omega arith);
 }

@@ -15,14 +15,14 @@ given_is [] x y given = cc
 given_is (c ∷ cs) x y given = given_is cs x y (first_passes c.wrong c.refusal c.at x (checked cs y) given).1
 
 -- and so it is with the value of a result
-pub made-is : {X A : Type 0} (r : Result X Fault) (f : X → A) (cs : List Check) (y : A) → answer f r ≡ checked cs y → IfOk r (λ x. f x ≡ y)
-made-is (Ok x) f cs y given = given_is cs (f x) y given
-made-is (Err e) f cs y refused = tt
+pub made_is : {X A : Type 0} (r : Result X Fault) (f : X → A) (cs : List Check) (y : A) → answer f r ≡ checked cs y → IfOk r (λ x. f x ≡ y)
+made_is (Ok x) f cs y given = given_is cs (f x) y given
+made_is (Err e) f cs y refused = tt
 
 -- what the first checks refuse is refused with more checks after them
-pub refused-first : {A B : Type 0} (cs ds : List Check) (n at : ℕ) (y : A) → refuses n at ≡ checked cs y → (z : B) → refuses n at ≡ checked (cs ++ ds) z
-refused-first [] ds n at y refused z = absurd (let w : ◌≡◌ {A = ℕ} 0 1 = cc in omega arith)
-refused-first (c ∷ cs) ds n at y refused z = by c.wrong refused (λ more. refused-first cs ds n at y more z)
+pub refused_first : {A B : Type 0} (cs ds : List Check) (n at : ℕ) (y : A) → refuses n at ≡ checked cs y → (z : B) → refuses n at ≡ checked (cs ++ ds) z
+refused_first [] ds n at y refused z = absurd (let w : ◌≡◌ {A = ℕ} 0 1 = cc in omega arith)
+refused_first (c ∷ cs) ds n at y refused z = by c.wrong refused (λ more. refused_first cs ds n at y more z)
   where
     by : (b : Bool) → refuses n at ≡ cond b (refuses c.refusal c.at) (checked cs y) → (refuses n at ≡ checked cs y → refuses n at ≡ checked (cs ++ ds) z) → refuses n at ≡ cond b (refuses c.refusal c.at) (checked (cs ++ ds) z)
     by true here later = cc
@@ -36,17 +36,17 @@ passed_first (c ∷ cs) ds x y given z =
     rw first.0 (passed_first cs ds x y first.1 z)
 
 -- where one value is given, any other would have been given too
-pub gives-any : {A B : Type 0} (cs : List Check) (x y : A) → gives x ≡ checked cs y → (z : B) → gives z ≡ checked cs z
-gives-any cs x y given z = passed_first cs [] x y given z ∙ ap (λ all. checked all z) (append-nil cs)
+pub gives_any : {A B : Type 0} (cs : List Check) (x y : A) → gives x ≡ checked cs y → (z : B) → gives z ≡ checked cs z
+gives_any cs x y given z = passed_first cs [] x y given z ∙ ap (λ all. checked all z) (append-nil cs)
 
 -- and so would what is made of it, of what is made of the one that was to be given
 pub gives_as : {A B : Type 0} (f : A → B) (cs : List Check) (x y : A) → gives x ≡ checked cs y → gives (f x) ≡ checked cs (f y)
-gives_as f cs x y given = ap (λ z. gives (f z)) (given_is cs x y given) ∙ gives-any cs x y given (f y)
+gives_as f cs x y given = ap (λ z. gives (f z)) (given_is cs x y given) ∙ gives_any cs x y given (f y)
 
 -- and where one is refused, any other would have been refused in the same way
-pub refuses-any : {A B : Type 0} (cs : List Check) (n at : ℕ) (y : A) → refuses n at ≡ checked cs y → (z : B) → refuses n at ≡ checked cs z
-refuses-any cs n at y refused z = refused-first cs [] n at y refused z ∙ ap (λ all. checked all z) (append-nil cs)
+pub refuses_any : {A B : Type 0} (cs : List Check) (n at : ℕ) (y : A) → refuses n at ≡ checked cs y → (z : B) → refuses n at ≡ checked cs z
+refuses_any cs n at y refused z = refused_first cs [] n at y refused z ∙ ap (λ all. checked all z) (append-nil cs)
 
 -- no question is both answered and refused
-pub answered-once : {A B : Type 0} (cs : List Check) (x y : A) (n at : ℕ) (z : B) → gives x ≡ checked cs y → refuses n at ≡ checked cs z → ⊥
-answered-once cs x y n at z given refused = let same = gives-any cs x y given z in let w : ◌≡◌ {A = ℕ} 0 1 = cc in omega arith
+pub answered_once : {A B : Type 0} (cs : List Check) (x y : A) (n at : ℕ) (z : B) → gives x ≡ checked cs y → refuses n at ≡ checked cs z → ⊥
+answered_once cs x y n at z given refused = let same = gives_any cs x y given z in let w : ◌≡◌ {A = ℕ} 0 1 = cc in omega arith

@@ -33,15 +33,15 @@ same_rows (r ∷ rs) (s ∷ ss) same =
     ap₂ ◌∷◌ (same_row r s first) (same_rows rs ss rest)
 
 -- the row of a row's numbers is that row
-pub row-of-plain : (r : Row) → row_of (plain r) ≡ Some r
+pub row_of_plain : (r : Row) → row_of (plain r) ≡ Some r
 unfolding row_of
-row-of-plain r =
+row_of_plain r =
     dif_pos (dec_le 1 r.work) le_prop r.busy _ _
     ∙ dif_pos (dec_le (r.work + r.jitter) r.deadline) le_prop r.roomy _ _
     ∙ dif_pos (dec_le r.deadline r.period) le_prop r.timely _ _
     ∙ dif_pos (dec_le r.period horizon) le_prop r.near _ _
 
 -- and so it is with lists of rows
-pub rows-of-plain : (rs : List Row) → rows_of (map plain rs) ≡ rs
-rows-of-plain [] = refl
-rows-of-plain (r ∷ rs) = ap₂ kept (row-of-plain r) (rows-of-plain rs)
+pub rows_of_plain : (rs : List Row) → rows_of (map plain rs) ≡ rs
+rows_of_plain [] = refl
+rows_of_plain (r ∷ rs) = ap₂ kept (row_of_plain r) (rows_of_plain rs)

@@ -4,8 +4,8 @@ use Rattle.rows.specs.declared.tasks.Row.{Row}
 use Rattle.rows.specs.Times.{ceiling}
 
 -- a row stands on a frame when its period divides it
-abbrev pub on-frame : ℕ → Row → Bool
-on-frame h r = h % r.period == 0
+abbrev pub on_frame : ℕ → Row → Bool
+on_frame h r = h % r.period == 0
 
 -- the window of a row: its deadline less its jitter, the time left once it is ready
 abbrev pub window : Row → ℕ

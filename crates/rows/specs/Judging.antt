@@ -21,8 +21,8 @@ abbrev pub flaw : (Numbers → Bool) → ℕ → Flaw
 flaw wrong refusal = record { wrong = wrong; refusal = refusal }
 
 -- what keeps four numbers from being a row, in the order of the checks: idle row, no window, late deadline, long period
-abbrev pub row-flaws : List Flaw
-row-flaws =
+abbrev pub row_flaws : List Flaw
+row_flaws =
     flaw (λ n. nat_eq n.work 0) 4
     ∷ flaw (λ n. nat_lt n.deadline (n.work + n.jitter)) 5
     ∷ flaw (λ n. nat_lt n.period n.deadline) 6
@@ -30,12 +30,12 @@ row-flaws =
     ∷ []
 
 -- what keeps them from being a row on a frame: the same, and then off frame
-abbrev pub frame-flaws : ℕ → List Flaw
-frame-flaws h = row-flaws ++ flaw (λ n. not (h % n.period == 0)) 8 ∷ []
+abbrev pub frame_flaws : ℕ → List Flaw
+frame_flaws h = row_flaws ++ flaw (λ n. not (h % n.period == 0)) 8 ∷ []
 
 -- the checks of four numbers for flaws, each telling the same position
-abbrev pub flaw-checks : List Flaw → Numbers → ℕ → List Check
-flaw-checks flaws n at = map (λ f. check (f.wrong n) f.refusal at) flaws
+abbrev pub flaw_checks : List Flaw → Numbers → ℕ → List Check
+flaw_checks flaws n at = map (λ f. check (f.wrong n) f.refusal at) flaws
 
 -- the row of four numbers, where they are one
 unfoldable pub row_of : Numbers → Option Row

@@ -6,13 +6,13 @@ abbrev pub horizon : ℕ
 horizon = 16777216
 
 -- a table has at most this many rows
-abbrev pub most-rows : ℕ
-most-rows = 32
+abbrev pub most_rows : ℕ
+most_rows = 32
 
 -- a frame: a common multiple of the periods of a table. Amounts of demand are counted in parts,
 -- frame parts to a unit of work, so that every amount is a whole number
-abbrev pub is-frame : ℕ → Bool
-is-frame h = nat_le 1 h && nat_le h horizon
+abbrev pub is_frame : ℕ → Bool
+is_frame h = nat_le 1 h && nat_le h horizon
 
 -- a / b rounded up
 abbrev pub ceiling : ℕ → ℕ → ℕ

@@ -1,8 +1,8 @@
 // Times, frames, and the exact count of a row's demand.
 ghost use Rattle.std.specs.Prelude.{◌≡◌};
 ghost use Rattle.rows.specs.Judging.{plain};
-ghost use Rattle.rows.specs.Times.{is-frame};
-ghost use Rattle.rows.specs.Counting.{on-frame, window, steps, Jobs};
+ghost use Rattle.rows.specs.Times.{is_frame};
+ghost use Rattle.rows.specs.Counting.{on_frame, window, steps, Jobs};
 
 use crate::tasks::{Numbers, Row};
 
@@ -14,7 +14,7 @@ pub const MOST_ROWS: usize = 32;
 
 // Whether a number is a frame: from 1 to the horizon.
 pub fn is_frame(frame: u32) -> bool
-    ensures { result ≡ is-frame frame }
+    ensures { result ≡ is_frame frame }
 {
     1 <= frame && frame <= HORIZON
 }
@@ -41,7 +41,7 @@ impl Row {
 
     // Whether the period divides the frame.
     pub fn stands_on(&self, frame: u32) -> bool
-        ensures { result ≡ on-frame frame self.now }
+        ensures { result ≡ on_frame frame self.now }
     {
         frame % self.period == 0
     }

@@ -1,7 +1,7 @@
 // Four numbers are made a row, or refused.
 ghost use Rattle.std.specs.Prelude.{◌≡◌};
 ghost use Rattle.rows.specs.Answers.{answer, checked};
-ghost use Rattle.rows.specs.Judging.{plain, row-flaws, frame-flaws, flaw-checks};
+ghost use Rattle.rows.specs.Judging.{plain, row_flaws, frame_flaws, flaw_checks};
 
 use crate::counting::HORIZON;
 use crate::refusals::{Fault, Refusal};
@@ -10,7 +10,7 @@ use crate::tasks::{Numbers, Row};
 impl Numbers {
     // The row of these four numbers. A refusal tells the position that the caller hands in.
     pub fn judge(&self, at: u32) -> Result<Row, Fault>
-        ensures { answer plain result ≡ checked (flaw-checks row-flaws self.now at) self.now }
+        ensures { answer plain result ≡ checked (flaw_checks row_flaws self.now at) self.now }
     {
         if self.work == 0 {
             return Err(Refusal::IdleRow.at(at));
@@ -34,7 +34,7 @@ impl Numbers {
 
     // The row of these four numbers on a frame, which its period has to divide.
     pub fn judge_on(&self, frame: u32, at: u32) -> Result<Row, Fault>
-        ensures { answer plain result ≡ checked (flaw-checks (frame-flaws frame) self.now at) self.now }
+        ensures { answer plain result ≡ checked (flaw_checks (frame_flaws frame) self.now at) self.now }
     {
         let row = self.judge(at)?;
         if !row.stands_on(frame) {

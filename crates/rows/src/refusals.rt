@@ -1,7 +1,7 @@
 // Why a call was refused, and where. One enum and one fault for every layer of the toolkit.
 ghost use Rattle.std.specs.Prelude.{◌≡◌, Some, nat_eq, IsTrue, ◌↔◌};
 ghost use Rattle.rows.specs.Refusals.{number, words};
-ghost use Rattle.rows.specs.Shown.{shown-fault};
+ghost use Rattle.rows.specs.Shown.{shown_fault};
 ghost use Rattle.std.specs.Cmp.Rules.{comparing};
 ghost use Rattle.std.proofs.Common.{rules};
 ghost use Rattle.std.specs.Cmp.{partial_equiv_from_equiv};
@@ -109,7 +109,7 @@ impl Eq for Refusal {
 
 // A fault as a person reads it: "refusal 8, off frame, at 3".
 impl fmt::Display for Fault {
-    ghost output = { λ x. Some (shown-fault x) };
+    ghost output = { λ x. Some (shown_fault x) };
 
     fn fmt<W: fmt::Write>(&self, f: &mut fmt::Formatter<W>) -> fmt::Result {
         let number = self.refusal.number();

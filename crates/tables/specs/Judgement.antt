@@ -2,12 +2,12 @@
 use Rattle.std.specs.Prelude.{ℕ, cond, List, nat_le}
 use Rattle.rows.specs.declared.tasks.Numbers.{Numbers}
 use Rattle.rows.specs.Answers.{Answer, gives, refuses, checked}
-use Rattle.rows.specs.Judging.{frame-flaws}
-use Rattle.tables.specs.Surveys.{flaws-in}
+use Rattle.rows.specs.Judging.{frame_flaws}
+use Rattle.tables.specs.Surveys.{flaws_in}
 
 -- what judging a whole table on a frame answers: nothing but that no row has a flaw, or the refusal
 abbrev pub judged : ℕ → List Numbers → Answer (Unit {0})
-judged h table = checked (flaws-in (frame-flaws h) table) tt
+judged h table = checked (flaws_in (frame_flaws h) table) tt
 
 -- the graver of two answers, the earlier one first: a refusal before a value, and of two refusals the
 -- one with the smaller number, or the earlier one

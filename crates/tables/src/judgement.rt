@@ -3,7 +3,7 @@ ghost use Rattle.std.specs.Prelude.{◌≡◌, ◌≤◌, map, length, take, OnO
 ghost use Rattle.rows.specs.Answers.{answer, refuses};
 ghost use Rattle.rows.specs.Judging.{plain};
 ghost use Rattle.rows.specs.Refusals.{number};
-ghost use Rattle.rows.specs.Times.{most-rows};
+ghost use Rattle.rows.specs.Times.{most_rows};
 ghost use Rattle.tables.specs.Judgement.{graver, judged};
 
 use rows::{Fault, Numbers, Row};
@@ -22,7 +22,7 @@ fn graver(so_far: Result<(), Fault>, fault: Fault) -> Fault
 // Makes the rows of the numbers of a table, in their order. A refusal is the one with the smallest
 // number that any place gives, and tells the smallest rank that gives it.
 pub(crate) fn judge_all(frame: u32, table: &[Numbers], rows: &mut [Row]) -> Result<(), Fault>
-    requires few { length table.now ≤ most-rows }
+    requires few { length table.now ≤ most_rows }
     requires room { length table.now ≤ length rows.old }
     ensures judged { answer (λ u. u) result ≡ judged frame table.now }
     ensures rows { OnOk result (map plain (take (length table.now) rows.new) ≡ table.now) }

@@ -2,10 +2,10 @@
 ghost use Rattle.std.specs.Prelude.{◌≡◌, map, length, MatchResult, OnOk};
 ghost use Rattle.rows.specs.Answers.{answer, checked};
 ghost use Rattle.rows.specs.Judging.{plain, rows_of};
-ghost use Rattle.rows.specs.Lists.{written, Stays-outside};
+ghost use Rattle.rows.specs.Lists.{written, StaysOutside};
 ghost use Rattle.findings.specs.Findings.{tells};
-ghost use Rattle.findings.specs.Tables.{findings-of, Table-says};
-ghost use Rattle.tables.specs.Surveys.{survey-checks};
+ghost use Rattle.findings.specs.Tables.{findings_of, TableSays};
+ghost use Rattle.tables.specs.Surveys.{survey_checks};
 
 use crate::judgement::judge_all;
 use bounds::Bound;
@@ -20,11 +20,11 @@ pub fn survey<B: Bound>(
     table: &[Numbers],
     list: &mut [Finding],
 ) -> Result<usize, Fault>
-    ensures answered { answer (λ n. n) result ≡ checked (survey-checks frame table.now (length list.old)) (length table.now) }
-    ensures filled { MatchResult result (λ _. map tells list.new ≡ written (map tells list.old) 0 (findings-of (meaning bound.now) frame (rows_of table.now))) (λ _. list.new ≡ list.old) }
-    ensures stay { Stays-outside 0 (length table.now) list.old list.new }
+    ensures answered { answer (λ n. n) result ≡ checked (survey_checks frame table.now (length list.old)) (length table.now) }
+    ensures filled { MatchResult result (λ _. map tells list.new ≡ written (map tells list.old) 0 (findings_of (B.meaning bound.now) frame (rows_of table.now))) (λ _. list.new ≡ list.old) }
+    ensures stay { StaysOutside 0 (length table.now) list.old list.new }
     ensures rows { OnOk result (map plain (rows_of table.now) ≡ table.now) }
-    ensures says { OnOk result (Table-says (meaning bound.now) frame (rows_of table.now)) }
+    ensures says { OnOk result (TableSays (B.meaning bound.now) frame (rows_of table.now)) }
 {
     check_size(frame, table.len(), list.len())?;
     let unused = Row {

@@ -2,10 +2,10 @@
 use Rattle.std.proofs.Common.{◌≡◌, ℕ, zero, suc, ◌+◌, ◌<◌, ◌≤◌, Bool, true, false, cond, not, ◌&&◌, ◌||◌, eqb, sym, refl, ◌∙◌, subst, ⊎_elim, arith}
 use Rattle.std.proofs.lemmas.Bool.{and_parts, and_right, cases_lt, cases_order, lt-leb, ne_eqb, or_from}
 use Rattle.bounds.specs.Instants.{least, count}
-use Rattle.bounds.specs.Supplied.{rises, before-tail, linear-tail}
+use Rattle.bounds.specs.Supplied.{rises, before_tail, linear_tail}
 use Rattle.findings.specs.Findings.{first_rest, stop, points}
-use Rattle.brackets.specs.Bracketing.{slow-rest}
-use Rattle.worked.specs.Table.{Worked, row-b}
+use Rattle.brackets.specs.Bracketing.{slow_rest}
+use Rattle.worked.specs.Table.{Worked, row_b}
 
 -- two tests agree on the numbers below n
 abbrev agree : (ℕ → Bool) → (ℕ → Bool) → ℕ → Bool
@@ -25,31 +25,31 @@ agrees p q (suc n) t all below =
     same false true e = e
     same false false e = refl
 
-corners-of-b : (t : ℕ) → (linear-tail 3).corner row-b t ≡ (eqb t 5 || eqb t 11)
-corners-of-b t =
-    ⊎_elim (λ (early : t < 12). agrees ((linear-tail 3).corner row-b) (λ k. eqb k 5 || eqb k 11) 12 t refl early)
+corners_of_b : (t : ℕ) → (linear_tail 3).corner row_b t ≡ (eqb t 5 || eqb t 11)
+corners_of_b t =
+    ⊎_elim (λ (early : t < 12). agrees ((linear_tail 3).corner row_b) (λ k. eqb k 5 || eqb k 11) 12 t refl early)
     (λ (late : 12 ≤ t).
-    and_right (rises row-b t) (before-tail 3 row-b t) (lt-leb (t + 1) 12 (omega arith))
+    and_right (rises row_b t) (before_tail 3 row_b t) (lt-leb (t + 1) 12 (omega arith))
     ∙ sym (or_from (eqb t 5) (eqb t 11) (ne_eqb t 5 (λ e. omega arith)) (ne_eqb t 11 (λ e. omega arith))))
     (cases_lt t 12)
 
 pub worked : Worked
-unfolding least count first_rest stop points slow-rest
+unfolding least count first_rest stop points slow_rest
 worked = record {
-  exact-a = refl;
-  exact-b = refl;
-  exact-e = refl;
-  tail-1-b = refl;
-  tail-1-e = refl;
-  tail-2-e = refl;
-  tail-3-e = refl;
-  table-exact = refl;
-  table-tail-3 = refl;
-  slow-b = refl;
-  slow-e = refl;
-  steps-at-5 = refl;
-  steps-at-6 = refl;
-  parts-at-5 = refl;
-  parts-at-6 = refl;
-  corners = corners-of-b;
+  exact_a = refl;
+  exact_b = refl;
+  exact_e = refl;
+  tail_1_b = refl;
+  tail_1_e = refl;
+  tail_2_e = refl;
+  tail_3_e = refl;
+  table_exact = refl;
+  table_tail_3 = refl;
+  slow_b = refl;
+  slow_e = refl;
+  steps_at_5 = refl;
+  steps_at_6 = refl;
+  parts_at_5 = refl;
+  parts_at_6 = refl;
+  corners = corners_of_b;
 }

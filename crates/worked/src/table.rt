@@ -1,6 +1,6 @@
 // The three rows of the worked table.
 ghost use Rattle.std.specs.Prelude.{◌≡◌, [], ◌∷◌};
-ghost use Rattle.worked.specs.Table.{Worked, row-a, row-b, row-e};
+ghost use Rattle.worked.specs.Table.{Worked, row_a, row_b, row_e};
 
 use rows::Row;
 
@@ -9,7 +9,7 @@ pub const FRAME: u32 = 12;
 
 // The rows of the worked table in rank order. What is found about them is proved once, by hand.
 pub fn worked_rows() -> [Row; 3]
-    ensures rows { result ≡ row-a ∷ row-b ∷ row-e ∷ [] }
+    ensures rows { result ≡ row_a ∷ row_b ∷ row_e ∷ [] }
     ensures worked { Worked }
 {
     [

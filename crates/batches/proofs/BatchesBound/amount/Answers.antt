@@ -1,20 +1,20 @@
 use Rattle.std.proofs.Common.{sym, arith}
-use Rattle.bounds.specs.Asking.{asked-tells, asked-then}
-use Rattle.bounds.proofs.Fitting.{amount-fits}
-use Rattle.batches.specs.BatchLaws.{jobs-few, batch-laws}
+use Rattle.bounds.specs.Lemmas.Asking.{asked_tells, asked_then}
+use Rattle.bounds.proofs.Fitting.{amount_fits}
+use Rattle.batches.specs.Lemmas.BatchLaws.{jobs_few, batch_laws}
 use Rattle.batches.proofs.BatchesBound.amount.Goals as goal
 
 pub counted-jobs-requires : goal.counted-jobs-requires
 counted-jobs-requires c =
     let row = c.args.row.now in
-    let ask = asked-tells c.args.frame row c.args.at (sym c.if-not-asked.ensures) in
-    rw c.job-count.ensures (jobs-few row _ (omega arith))
+    let ask = asked_tells c.args.frame row c.args.at (sym c.if-not-asked.ensures) in
+    rw c.job_count.ensures (jobs_few row _ (omega arith))
 
 pub overflow_mul-result-2 : goal.overflow_mul-result-2
 overflow_mul-result-2 c =
     let b = c.args.self.now in
     let row = c.args.row.now in
     let asks = sym c.if-not-asked.ensures in
-    let known = asked-tells c.args.frame row c.args.at asks in
-    rw (c.from.ensures, c.from-2.ensures, c.counted-jobs.ensures, c.job-count.ensures)
-    (record { fits = amount-fits (batch-laws b.accuracy b.size b.low b.high b.some) c.args.frame row _ (asked-then c.args.frame row c.args.at _ asks (omega arith)) })
+    let known = asked_tells c.args.frame row c.args.at asks in
+    rw (c.from.ensures, c.from-2.ensures, c.counted-jobs.ensures, c.job_count.ensures)
+    (record { fits = amount_fits (batch_laws b.accuracy b.size b.low b.high b.some) c.args.frame row _ (asked_then c.args.frame row c.args.at _ asks (omega arith)) })

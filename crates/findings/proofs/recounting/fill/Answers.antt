@@ -1,16 +1,16 @@
 use Rattle.std.proofs.Common.{◌≡◌, ◌-◌, ◌<◌, [], map, length, drop, set, refl, ap, ◌∙◌, arith}
 use Rattle.std.proofs.lemmas.List.{length-drop, length-map, map-set}
 use Rattle.findings.specs.Findings.{tells}
-use Rattle.findings.specs.Tables.{findings-of}
-use Rattle.findings.proofs.Tables.{length-findings-below, rows-above-fit, counted-at, put-none, put-more, put_all, stays-more, outside-end}
+use Rattle.findings.specs.Tables.{findings_of}
+use Rattle.findings.proofs.Tables.{length_findings_below, rows_above_fit, counted_at, put_none, put_more, put_all, stays_more, outside_end}
 use Rattle.findings.proofs.recounting.fill.Goals as goal
 
 pub loop-i-init : goal.loop-i-init
-loop-i-init g c = (omega arith, put-none _ _ c.args.from, λ k d outside. refl)
+loop-i-init g c = (omega arith, put_none _ _ c.args.from, λ k d outside. refl)
 
 pub search-requires : goal.search-requires
 search-requires g c = record {
-  fit = rows-above-fit c.args.frame c.args.rows.now _ c.requires.fit (omega (arith, c.loop-i.auto.i, c.loop-i-test.true));
+  fit = rows_above_fit c.args.frame c.args.rows.now _ c.requires.fit (omega (arith, c.loop-i.auto.i, c.loop-i-test.true));
   busy = omega arith;
   some = omega (arith, c.window.ensures);
   near = omega (arith, c.window.ensures);
@@ -21,22 +21,22 @@ loop-i-preserved g c =
     let m = g.B.Bound.meaning c.args.bound.now in
     let old = map tells c.args.list.now in
     let from = c.args.from in
-    let new = drop from (findings-of m c.args.frame c.args.rows.now) in
+    let new = drop from (findings_of m c.args.frame c.args.rows.now) in
     let i = c.loop-i.i in
-    let left : i - from < length new = omega (arith, length-drop from (findings-of m c.args.frame c.args.rows.now), length-findings-below m c.args.frame [] c.args.rows.now, c.loop-i-test.true) in
-    let found = counted-at m c.args.frame c.args.rows.now from i c.index-rows-i.result (tells c.search.result) c.window.result c.loop-i.auto.i c.loop-i-test.true c.index-rows-i.is c.window.ensures c.search.ensures.found in (
+    let left : i - from < length new = omega (arith, length-drop from (findings_of m c.args.frame c.args.rows.now), length_findings_below m c.args.frame [] c.args.rows.now, c.loop-i-test.true) in
+    let found = counted_at m c.args.frame c.args.rows.now from i c.index-rows-i.result (tells c.search.result) c.window.result c.loop-i.auto.i c.loop-i-test.true c.index-rows-i.is c.window.ensures c.search.ensures.found in (
       omega (arith, c.loop-i-test.true),
       map-set tells c.loop-i.list i c.search.result ∙ ap (λ l. set l i (tells c.search.result)) c.loop-i.invariant.1
-          ∙ put-more old new from i (tells c.search.result) c.loop-i.auto.i (omega (arith, length-map c.args.list.now tells, c.requires.room, c.loop-i-test.true)) left found,
-      stays-more c.args.list.now c.loop-i.list from i c.search.result c.loop-i.auto.i c.loop-i.invariant.2,
+          ∙ put_more old new from i (tells c.search.result) c.loop-i.auto.i (omega (arith, length-map c.args.list.now tells, c.requires.room, c.loop-i-test.true)) left found,
+      stays_more c.args.list.now c.loop-i.list from i c.search.result c.loop-i.auto.i c.loop-i.invariant.2,
     )
 
 pub returns : goal.returns
 returns g c =
     let m = g.B.Bound.meaning c.args.bound.now in
-    let all = findings-of m c.args.frame c.args.rows.now in
-    let whole : c.loop-i.i - c.args.from ≡ length (drop c.args.from all) = omega (arith, length-drop c.args.from all, length-findings-below m c.args.frame [] c.args.rows.now, c.loop-i.auto.i, c.loop-i-test.false) in
+    let all = findings_of m c.args.frame c.args.rows.now in
+    let whole : c.loop-i.i - c.args.from ≡ length (drop c.args.from all) = omega (arith, length-drop c.args.from all, length_findings_below m c.args.frame [] c.args.rows.now, c.loop-i.auto.i, c.loop-i-test.false) in
     record {
       filled = c.loop-i.invariant.1 ∙ put_all _ (drop c.args.from all) c.args.from c.loop-i.i whole;
-      stay = λ k d outside. c.loop-i.invariant.2 k d (outside-end c.args.from (length c.args.rows.now) c.loop-i.i k c.loop-i.invariant.0 outside);
+      stay = λ k d outside. c.loop-i.invariant.2 k d (outside_end c.args.from (length c.args.rows.now) c.loop-i.i k c.loop-i.invariant.0 outside);
     }

@@ -1,13 +1,13 @@
 use Rattle.std.proofs.Common.{◌≡◌, ◌-◌, ◌≤◌, map, length, drop}
 use lib.Seq.{paste}
-use Rattle.rows.specs.Lists.{Stays-outside}
+use Rattle.rows.specs.Lists.{StaysOutside}
 use Rattle.findings.specs.Findings.{tells}
-use Rattle.findings.specs.Tables.{findings-of}
+use Rattle.findings.specs.Tables.{findings_of}
 use Rattle.findings.proofs.recounting.fill.Given as goal
 
 -- so far the findings of the rows from `from` to i are in the list, and outside of these places it stayed
 abbrev pub invariant-loop-i : goal.invariant-loop-i
 invariant-loop-i g l =
     (l.i - l.from ≤ length l.rows - l.from)
-    × (map tells l.list ≡ paste (map tells l.initial.list) l.from (drop l.from (findings-of (g.B.Bound.meaning l.bound) l.frame l.rows)) (l.i - l.from))
-    × Stays-outside l.from l.i l.initial.list l.list
+    × (map tells l.list ≡ paste (map tells l.initial.list) l.from (drop l.from (findings_of (g.B.Bound.meaning l.bound) l.frame l.rows)) (l.i - l.from))
+    × StaysOutside l.from l.i l.initial.list l.list

@@ -1,7 +1,7 @@
 use Rattle.reading.proofs.whole.read.Goals as goal
 
-pub returns-in-err-heading : goal.returns-in-err-heading
-returns-in-err-heading c = ?
+pub returns-in_err-heading : goal.returns-in_err-heading
+returns-in_err-heading c = ?
 
 pub slice-bounds-result-end : goal.slice-bounds-result-end
 slice-bounds-result-end c = ?

@@ -1,5 +1,5 @@
 use Rattle.std.proofs.Common.{rules}
-use Rattle.bounds.specs.Rising.{rising}
+use Rattle.bounds.specs.Lemmas.Rising.{rising}
 use Rattle.bounds.proofs.linear.LinearTail.new.Goals as goal
 
 pub returns-then-accuracy-eq0 : goal.returns-then-accuracy-eq0

@@ -3,22 +3,22 @@ use Rattle.std.specs.Option.{option_map}
 use Rattle.rows.specs.Answers.{gives, checked, Check}
 use Rattle.rows.specs.Judging.{plain, row_of}
 use Rattle.rows.proofs.Checks.{gives_as}
-use Rattle.rows.proofs.SameRow.{row-of-plain}
+use Rattle.rows.proofs.SameRow.{row_of_plain}
 use Rattle.leaves.specs.declared.entries.Entry.TheVariants.{Row as row}
-use Rattle.leaves.specs.Entries.{row-body}
-use Rattle.reading.specs.Fields.{numbers-in, row_in}
-use Rattle.reading.specs.Kinds.{R-checks}
+use Rattle.leaves.specs.Entries.{row_body}
+use Rattle.reading.specs.Fields.{numbers_in, row_in}
+use Rattle.reading.specs.Kinds.{RChecks}
 use Rattle.reading.proofs.readers.Reader.row.Goals as goal
 
 pub returns : goal.returns
 returns c =
-    let r = c.in-ok-row.row in
+    let r = c.in_ok-row.row in
     let reader = c.args.self.now in
     let bytes = reader.rest.now in
-    let left : ℕ → List Check = λ at. R-checks c.args.heading.frame c.args.rows at bytes in
+    let left : ℕ → List Check = λ at. RChecks c.args.heading.frame c.args.rows at bytes in
     record {
-      judged = ap (λ o. gives (option_map row o)) (sym (row-of-plain r)) ∙ gives_as (λ n. option_map row (row_of n)) (left reader.place) (plain r) (numbers-in bytes) c.in-ok-row.ensures.judged
+      judged = ap (λ o. gives (option_map row o)) (sym (row_of_plain r)) ∙ gives_as (λ n. option_map row (row_of n)) (left reader.place) (plain r) (numbers_in bytes) c.in_ok-row.ensures.judged
           ∙ ap (λ at. checked (left at) (row_in bytes)) reader.placed;
-      taken = (r, refl, c.move-on.ensures.phase, c.in-ok-row.ensures.same ∙ ap (λ xs. row-body r ++ xs) (sym c.move-on.ensures.rest));
+      taken = (r, refl, c.move_on.ensures.phase, c.in_ok-row.ensures.same ∙ ap (λ xs. row_body r ++ xs) (sym c.move_on.ensures.rest));
       refused = tt;
     }

@@ -4,9 +4,9 @@ use Rattle.std.proofs.Common.{arith}
 use Rattle.std.proofs.lemmas.Nat.{div-add-mod', mul-le}
 use Rattle.std.proofs.lemmas.Bool.{and_from, and_parts, le-leb, leb-true, eqb-true}
 use Rattle.rows.specs.declared.tasks.Row.{Row}
-use Rattle.rows.specs.Times.{horizon, is-frame, ceiling}
-use Rattle.rows.specs.Counting.{on-frame, steps}
-use Rattle.rows.proofs.Ceiling.{ceiling-tight}
+use Rattle.rows.specs.Times.{horizon, is_frame, ceiling}
+use Rattle.rows.specs.Counting.{on_frame, steps}
+use Rattle.rows.proofs.Ceiling.{ceiling_tight}
 use Rattle.bounds.specs.Meaning.{asked}
 
 -- what a bound that is asked knows of the frame h, the row r and the instant t
@@ -16,10 +16,10 @@ pub record Asked (h : ℕ) (r : Row) (t : ℕ) : Type 0 where
   pub near : t ≤ horizon
 
 -- being asked says all of it
-pub asked-tells : (h : ℕ) (r : Row) (t : ℕ) → asked h r t ≡ true → Asked h r t
-asked-tells h r t ask =
-    let parts = and_parts (is-frame h && on-frame h r) (nat_le t horizon) ask in
-    let on = and_parts (is-frame h) (on-frame h r) parts.0 in
+pub asked_tells : (h : ℕ) (r : Row) (t : ℕ) → asked h r t ≡ true → Asked h r t
+asked_tells h r t ask =
+    let parts = and_parts (is_frame h && on_frame h r) (nat_le t horizon) ask in
+    let on = and_parts (is_frame h) (on_frame h r) parts.0 in
     record {
       frame = leb-true h horizon (and_parts (nat_le 1 h) (nat_le h horizon) on.0).1;
       whole = omega (arith, div-add-mod' h r.period, eqb-true (h % r.period) 0 on.1);
@@ -27,24 +27,24 @@ asked-tells h r t ask =
     }
 
 -- what is asked at one instant can be asked at any other up to the horizon
-pub asked-then : (h : ℕ) (r : Row) (t u : ℕ) → asked h r t ≡ true → u ≤ horizon → asked h r u ≡ true
-asked-then h r t u ask near = and_from (is-frame h && on-frame h r) (nat_le u horizon) (and_parts (is-frame h && on-frame h r) (nat_le t horizon) ask).0 (le-leb u horizon near)
+pub asked_then : (h : ℕ) (r : Row) (t u : ℕ) → asked h r t ≡ true → u ≤ horizon → asked h r u ≡ true
+asked_then h r t u ask near = and_from (is_frame h && on_frame h r) (nat_le u horizon) (and_parts (is_frame h && on_frame h r) (nat_le t horizon) ask).0 (le-leb u horizon near)
 
 -- no amount at a frame up to the horizon has more parts than this
-abbrev pub most-parts : ℕ
-most-parts = 844424930131968
+abbrev pub most_parts : ℕ
+most_parts = 844424930131968
 
 -- exact steps up to the horizon stay within it
-pub steps-fit : (h : ℕ) (r : Row) (t : ℕ) → h ≤ horizon → t ≤ horizon → h * steps r t ≤ most-parts
-steps-fit h r t frame near =
+pub steps_fit : (h : ℕ) (r : Row) (t : ℕ) → h ≤ horizon → t ≤ horizon → h * steps r t ≤ most_parts
+steps_fit h r t frame near =
     let jobs = ceiling (t + r.jitter) r.period in
-    let tight = ceiling-tight (t + r.jitter) r.period (omega arith) in
+    let tight = ceiling_tight (t + r.jitter) r.period (omega arith) in
     let work = mul-le r.work jobs r.period jobs (omega arith) (omega arith) in
     mul-le h (steps r t) horizon 50331648 frame (omega arith)
 
 -- and so does the line of the tail, as the code adds it up
-pub line-fits : (h : ℕ) (r : Row) (t : ℕ) → Asked h r t → h * r.work + (t + r.jitter) * (r.work * (h / r.period)) ≤ most-parts
-line-fits h r t ask =
+pub line_fits : (h : ℕ) (r : Row) (t : ℕ) → Asked h r t → h * r.work + (t + r.jitter) * (r.work * (h / r.period)) ≤ most_parts
+line_fits h r t ask =
     let share = mul-le r.work (h / r.period) r.period (h / r.period) (omega arith) (omega arith) in
     let rise = mul-le (t + r.jitter) (r.work * (h / r.period)) 33554432 horizon (omega arith) (omega arith) in
     let first = mul-le h r.work horizon horizon ask.frame (omega arith) in

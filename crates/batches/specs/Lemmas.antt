@@ -1,0 +1,3 @@
+-- What the laws of the batches are proved from.
+pub mod JobsCounted
+pub mod BatchLaws
