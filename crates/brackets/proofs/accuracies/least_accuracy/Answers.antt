@@ -12,7 +12,7 @@ use Rattle.brackets.proofs.accuracies.least_accuracy.Goals as goal
 
 pub returns-in_err-finding : goal.returns-in_err-finding
 returns-in_err-finding c =
-    let err = err_from_is_err_and c.from-residual-in_err-finding.result c.from-residual-in_err-finding.ensures.1 in
+    let err = err_from_is_err_and c.from_residual-in_err-finding.result c.from_residual-in_err-finding.ensures.1 in
     record {
       least = rw (err.1, err.2) (refuses_any (checks c.args.frame c.args.row.now c.args.above.now) _ _ _ c.in_err-finding.ensures.found _);
       from = rw err.1 tt;

@@ -8,7 +8,7 @@ use Rattle.brackets.proofs.counting.count_both.Goals as goal
 
 pub returns-in_err-exact : goal.returns-in_err-exact
 returns-in_err-exact g c =
-    let err = err_from_is_err_and c.from-residual.result c.from-residual.ensures.1 in
+    let err = err_from_is_err_and c.from_residual.result c.from_residual.ensures.1 in
     record {
       counted = rw (err.1, err.2) (refuses_any (checks c.args.frame c.args.row.now c.args.above.now) _ _ _ c.in_err-exact.ensures.found _);
       exactly = rw err.1 tt;

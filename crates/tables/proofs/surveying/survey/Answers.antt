@@ -13,7 +13,7 @@ use Rattle.tables.proofs.surveying.survey.Goals as goal
 
 pub returns-in_err-check_size : goal.returns-in_err-check_size
 returns-in_err-check_size g c =
-    let p = err_from_is_err_and c.from-residual.result c.from-residual.ensures.1 in
+    let p = err_from_is_err_and c.from_residual.result c.from_residual.ensures.1 in
     let table = c.args.table.now in
     let sizes = size_checks c.args.frame (length table) (length c.args.list.now) in
     let flaws = flaws_in (frame_flaws c.args.frame) table in
@@ -21,7 +21,7 @@ returns-in_err-check_size g c =
 
 pub returns-in_err-judge_all : goal.returns-in_err-judge_all
 returns-in_err-judge_all g c =
-    let p = err_from_is_err_and c.from-residual-in_err-judge_all.result c.from-residual-in_err-judge_all.ensures.1 in
+    let p = err_from_is_err_and c.from_residual-in_err-judge_all.result c.from_residual-in_err-judge_all.ensures.1 in
     let table = c.args.table.now in
     let sizes = size_checks c.args.frame (length table) (length c.args.list.now) in
     let flaws = flaws_in (frame_flaws c.args.frame) table in

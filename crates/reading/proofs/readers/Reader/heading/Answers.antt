@@ -11,5 +11,5 @@ pub returns-in_err-heading : goal.returns-in_err-heading
 returns-in_err-heading c =
     let reader = c.args.self.now in
     let bytes = reader.rest.now in
-    let p = err_from_is_err_and c.from-residual.result c.from-residual.ensures.1 in
+    let p = err_from_is_err_and c.from_residual.result c.from_residual.ensures.1 in
     rw (p.1, p.2) (record { judged = refuses_any (FChecks reader.place bytes) _ _ (heading_in bytes) c.in_err-heading.ensures.judged (Some (heading (heading_in bytes))) ∙ ap (λ at. checked (FChecks at bytes) (Some (heading (heading_in bytes)))) reader.placed; taken = tt; refused = refl })
