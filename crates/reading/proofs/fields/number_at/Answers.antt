@@ -4,5 +4,5 @@ use Rattle.reading.proofs.fields.number_at.Goals as goal
 
 pub returns : goal.returns
 returns c =
-    let same = four_at c.args.bytes.now c.args.at c.requires (λ k. (c.type-inv.bytes k).fits) in
+    let same = four_at c.args.bytes.now c.args.at c.requires (λ k. (c.type_inv.bytes k).fits) in
     record { value = search rules; same = rw c.from_be_bytes.ensures same }
