@@ -3,3 +3,4 @@ pub mod Standing
 pub mod Walks
 pub mod Wholes
 pub mod Passing
+pub mod Parts

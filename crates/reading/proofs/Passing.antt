@@ -1,8 +1,8 @@
 -- A reader that passes entry after entry, and where it stops.
-use Rattle.std.proofs.Common.{◌≡◌, ℕ, suc, ◌+◌, ◌<◌, ◌≤◌, Bool, true, false, cond, not, eqb, ltb, leb, List, [], ◌∷◌, ◌++◌, length, get_or, Some, None, Option, sym, refl, ap, ◌∙◌, subst, arith}
+use Rattle.std.proofs.Common.{◌≡◌, ℕ, suc, is_some, Ok, ◌+◌, ◌<◌, ◌≤◌, Bool, true, false, cond, not, eqb, ltb, leb, List, [], ◌∷◌, ◌++◌, length, get_or, Some, None, Option, sym, refl, ap, ◌∙◌, subst, arith}
 use Rattle.std.specs.Option.{option_map}
 use Rattle.std.proofs.lemmas.List.{append-nil, get_or-append-add, length-append}
-use Rattle.std.proofs.lemmas.Bool.{eqb-false, eqb-true, ltb-false}
+use Rattle.std.proofs.lemmas.Bool.{eqb-false, eqb-true, ltb-false, false≢true}
 use Rattle.rows.specs.declared.tasks.Numbers.{Numbers}
 use Rattle.rows.specs.declared.tasks.Row.{Row}
 use Rattle.rows.specs.Answers.{Answer, gives, refuses, check, checked}
@@ -19,7 +19,7 @@ use Rattle.reading.specs.declared.phases.Phase.{Phase}
 use Rattle.reading.specs.declared.phases.Phase.TheVariants.{Opening, Rows, Findings, Closed}
 use Rattle.reading.specs.Phases.{place_of, rows_in, frame_in, after, takes}
 use Rattle.reading.specs.Fields.{numbers_in, row_in, entry_in}
-use Rattle.reading.specs.Stepping.{entry_checks, next_answer}
+use Rattle.reading.specs.Stepping.{entry_checks, next_answer, Stepped}
 use Rattle.reading.specs.Runs.{Stands, after_all}
 use Rattle.reading.specs.Passed.{Passed}
 use Rattle.reading.specs.Whole.{RefusedAt, Fits}
@@ -143,3 +143,30 @@ pub passed_all : (bytes : List ℕ) (g : Heading) (t : ℕ) → Passed bytes (Cl
 passed_all bytes g t passed =
     let c = closing passed.before g t passed.well passed.leads in
     record { contents = c.contents; fits = (c.lawful, passed.split ∙ append-nil (bytes_of passed.before) ∙ ap bytes_of c.same); head = c.head; total = c.total }
+
+-- a step that took an entry leads on
+pub passed_step : (bytes : List ℕ) (p p' : Phase) (rest rest' : List ℕ) (o : Option Entry) → ((k : ℕ) → get_or bytes k 0 < 256)
+    → Passed bytes p rest → Stepped p rest (Ok o) p' rest' → is_some o ≡ true → Passed bytes p' rest'
+passed_step bytes p p' rest rest' None small passed step some = absurd (false≢true some)
+passed_step bytes p p' rest rest' (Some e) small passed step some =
+    subst (λ q. Passed bytes q rest') (sym step.phase) (passed_more bytes p rest passed e rest' (place_of p) small step.left step.answered)
+
+-- a reader that came to the end of a leaf
+pub record Finished (bytes : List ℕ) (p : Phase) : Type 0 where
+  pub head : Heading
+  pub total : ℕ
+  pub closed : p ≡ Closed head total
+  pub ended : Ended bytes head total
+
+-- a step that found no entry has come there
+pub passed_end : (bytes : List ℕ) (p p' : Phase) (rest rest' : List ℕ) (o : Option Entry)
+    → Passed bytes p rest → Stepped p rest (Ok o) p' rest' → is_some o ≡ false → Finished bytes p'
+passed_end bytes p p' rest rest' (Some e) passed step none = absurd (false≢true (sym none))
+passed_end bytes p p' rest rest' None passed step none =
+    let last = at_end p rest (place_of p) step.answered in
+    let closed = subst (λ q. Passed bytes q []) last.closed (subst (λ xs. Passed bytes p xs) last.none passed) in
+    record { head = last.head; total = last.total; closed = step.phase ∙ last.closed; ended = passed_all bytes last.head last.total closed }
+
+-- a closed phase tells its heading and its rows
+pub closed_same : {g h : Heading} {m n : ℕ} → ◌≡◌ {A = Phase} (Closed g m) (Closed h n) → (g ≡ h) × (m ≡ n)
+closed_same {g} {h} {m} {n} same = let head : g ≡ h = cc in let total : m ≡ n = cc in (head, total)

@@ -26,7 +26,7 @@ use Rattle.reading.specs.declared.phases.Phase.{Phase}
 use Rattle.reading.specs.declared.phases.Phase.TheVariants.{Opening, Rows, Findings, Closed}
 use Rattle.reading.specs.Phases.{rows_in, findings_in, frame_in, place_of, takes, after}
 use Rattle.reading.specs.Fields.{is_kind, heading_in, numbers_in, row_in, verdict_of, finding_in}
-use Rattle.reading.specs.Kinds.{FChecks, RChecks, AChecks, ZChecks}
+use Rattle.reading.specs.Kinds.{F_checks, R_checks, A_checks, Z_checks}
 use Rattle.reading.specs.Stepping.{next_answer}
 use Rattle.reading.specs.Runs.{Stands}
 use Rattle.reading.proofs.Turns.{turn_F, turn_R, turn_A, turn_Z}

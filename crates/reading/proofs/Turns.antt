@@ -10,7 +10,7 @@ use Rattle.reading.specs.declared.phases.Phase.{Phase}
 use Rattle.reading.specs.declared.phases.Phase.TheVariants.{Opening, Rows, Findings, Closed}
 use Rattle.reading.specs.Phases.{rows_in, findings_in, frame_in, place_of, takes, after}
 use Rattle.reading.specs.Fields.{first_of, kind, heading_in, row_in, finding_in, entry_in}
-use Rattle.reading.specs.Kinds.{FChecks, RChecks, AChecks, ZChecks}
+use Rattle.reading.specs.Kinds.{F_checks, R_checks, A_checks, Z_checks}
 use Rattle.reading.specs.Stepping.{entry_checks, next_answer, moved, read_bytes, Stepped}
 
 -- bytes with a first one are that one and the others
@@ -27,20 +27,20 @@ opened (Closed h n) k at bytes turn = absurd (let z : ◌≡◌ {A = ℕ} 0 1 = 
 
 module _ (p : Phase) (at : ℕ) (bytes : List ℕ) where
   pub turn_F : takes p 70 ≡ true → Some 70 ≡ first_of bytes → next_answer p at bytes
-      ≡ checked (FChecks at bytes) (Some (heading (heading_in bytes)))
-  turn_F turn starts = opened p 70 at bytes turn ∙ subst (λ b. checked (entry_checks p at b) (entry_in (kind b) b) ≡ checked (FChecks at b) (Some (heading (heading_in b)))) (sym (begins bytes 70 starts)) (rw turn)
+      ≡ checked (F_checks at bytes) (Some (heading (heading_in bytes)))
+  turn_F turn starts = opened p 70 at bytes turn ∙ subst (λ b. checked (entry_checks p at b) (entry_in (kind b) b) ≡ checked (F_checks at b) (Some (heading (heading_in b)))) (sym (begins bytes 70 starts)) (rw turn)
 
   pub turn_R : takes p 82 ≡ true → Some 82 ≡ first_of bytes → next_answer p at bytes
-      ≡ checked (RChecks (frame_in p) (rows_in p) at bytes) (row_in bytes)
-  turn_R turn starts = opened p 82 at bytes turn ∙ subst (λ b. checked (entry_checks p at b) (entry_in (kind b) b) ≡ checked (RChecks (frame_in p) (rows_in p) at b) (row_in b)) (sym (begins bytes 82 starts)) (rw turn)
+      ≡ checked (R_checks (frame_in p) (rows_in p) at bytes) (row_in bytes)
+  turn_R turn starts = opened p 82 at bytes turn ∙ subst (λ b. checked (entry_checks p at b) (entry_in (kind b) b) ≡ checked (R_checks (frame_in p) (rows_in p) at b) (row_in b)) (sym (begins bytes 82 starts)) (rw turn)
 
   pub turn_A : takes p 65 ≡ true → Some 65 ≡ first_of bytes → next_answer p at bytes
-      ≡ checked (AChecks (rows_in p) (findings_in p) at bytes) (Some (finding (finding_in bytes)))
-  turn_A turn starts = opened p 65 at bytes turn ∙ subst (λ b. checked (entry_checks p at b) (entry_in (kind b) b) ≡ checked (AChecks (rows_in p) (findings_in p) at b) (Some (finding (finding_in b)))) (sym (begins bytes 65 starts)) (rw turn)
+      ≡ checked (A_checks (rows_in p) (findings_in p) at bytes) (Some (finding (finding_in bytes)))
+  turn_A turn starts = opened p 65 at bytes turn ∙ subst (λ b. checked (entry_checks p at b) (entry_in (kind b) b) ≡ checked (A_checks (rows_in p) (findings_in p) at b) (Some (finding (finding_in b)))) (sym (begins bytes 65 starts)) (rw turn)
 
   pub turn_Z : takes p 90 ≡ true → Some 90 ≡ first_of bytes → next_answer p at bytes
-      ≡ checked (ZChecks (rows_in p) (findings_in p) at bytes) (Some (end (number_at 1 bytes)))
-  turn_Z turn starts = opened p 90 at bytes turn ∙ subst (λ b. checked (entry_checks p at b) (entry_in (kind b) b) ≡ checked (ZChecks (rows_in p) (findings_in p) at b) (Some (end (number_at 1 b)))) (sym (begins bytes 90 starts)) (rw turn)
+      ≡ checked (Z_checks (rows_in p) (findings_in p) at bytes) (Some (end (number_at 1 bytes)))
+  turn_Z turn starts = opened p 90 at bytes turn ∙ subst (λ b. checked (entry_checks p at b) (entry_in (kind b) b) ≡ checked (Z_checks (rows_in p) (findings_in p) at b) (Some (end (number_at 1 b)))) (sym (begins bytes 90 starts)) (rw turn)
 
 -- a step: the entry that was taken leads to the phase after it, and stood before the bytes left
 pub stepped : {p p' : Phase} {bytes bytes' : List ℕ} (r : Result (Option Entry) Fault) → answer (λ o. o) r ≡ next_answer p (place_of p) bytes

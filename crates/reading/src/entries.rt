@@ -6,7 +6,7 @@ ghost use Rattle.rows.specs.Times.{horizon};
 ghost use Rattle.leaves.specs.Bytes.{four, number_at};
 ghost use Rattle.leaves.specs.Entries.{heading_body, row_body, finding_body};
 ghost use Rattle.reading.specs.Fields.{heading_in, numbers_in, finding_in};
-ghost use Rattle.reading.specs.Kinds.{cut, FChecks, RChecks, AChecks, ZChecks};
+ghost use Rattle.reading.specs.Kinds.{cut, F_checks, R_checks, A_checks, Z_checks};
 
 use crate::fields::{finding_in, heading_in, number_at, row_in};
 use findings::Finding;
@@ -28,7 +28,7 @@ fn whole(bytes: &[u8], at: u32, size: usize) -> Result<(), Fault>
 // The heading.
 pub(crate) fn heading_entry(bytes: &[u8], at: u32) -> Result<Heading, Fault>
     requires { at ≤ horizon }
-    ensures judged { answer (λ h. h) result ≡ checked (FChecks at bytes.now) (heading_in bytes.now) }
+    ensures judged { answer (λ h. h) result ≡ checked (F_checks at bytes.now) (heading_in bytes.now) }
     ensures room { IfOk result (λ h. 7 ≤ length bytes.now) }
     ensures same { IfOk result (λ h. drop 1 bytes.now ≡ heading_body h ++ drop 7 bytes.now) }
 {
@@ -39,7 +39,7 @@ pub(crate) fn heading_entry(bytes: &[u8], at: u32) -> Result<Heading, Fault>
 // A row on the frame, after so many others.
 pub(crate) fn row_entry(bytes: &[u8], at: u32, frame: u32, rows: u8) -> Result<Row, Fault>
     requires { at ≤ horizon }
-    ensures judged { answer plain result ≡ checked (RChecks frame rows at bytes.now) (numbers_in bytes.now) }
+    ensures judged { answer plain result ≡ checked (R_checks frame rows at bytes.now) (numbers_in bytes.now) }
     ensures room { OnOk result (17 ≤ length bytes.now) }
     ensures same { IfOk result (λ row. drop 1 bytes.now ≡ row_body row ++ drop 17 bytes.now) }
 {
@@ -53,7 +53,7 @@ pub(crate) fn row_entry(bytes: &[u8], at: u32, frame: u32, rows: u8) -> Result<R
 // The finding about one of so many rows, after so many other findings.
 pub(crate) fn finding_entry(bytes: &[u8], at: u32, rows: u8, findings: u8) -> Result<Finding, Fault>
     requires { at ≤ horizon }
-    ensures judged { answer (λ f. f) result ≡ checked (AChecks rows findings at bytes.now) (finding_in bytes.now) }
+    ensures judged { answer (λ f. f) result ≡ checked (A_checks rows findings at bytes.now) (finding_in bytes.now) }
     ensures room { OnOk result (9 ≤ length bytes.now) }
     ensures same { IfOk result (λ f. drop 1 bytes.now ≡ finding_body f ++ drop 9 bytes.now) }
 {
@@ -67,7 +67,7 @@ pub(crate) fn finding_entry(bytes: &[u8], at: u32, rows: u8, findings: u8) -> Re
 // The end, after so many rows and findings.
 pub(crate) fn end_entry(bytes: &[u8], at: u32, rows: u8, findings: u8) -> Result<u32, Fault>
     requires { at ≤ horizon }
-    ensures judged { answer (λ n. n) result ≡ checked (ZChecks rows findings at bytes.now) (number_at 1 bytes.now) }
+    ensures judged { answer (λ n. n) result ≡ checked (Z_checks rows findings at bytes.now) (number_at 1 bytes.now) }
     ensures room { OnOk result (5 ≤ length bytes.now) }
     ensures same { IfOk result (λ n. drop 1 bytes.now ≡ four n ++ drop 5 bytes.now) }
 {

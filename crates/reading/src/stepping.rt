@@ -5,7 +5,7 @@ ghost use Rattle.rows.specs.Times.{most_rows};
 ghost use Rattle.leaves.specs.Bytes.{four, number_at};
 ghost use Rattle.leaves.specs.Entries.{heading_body, row_body, finding_body, row_place, finding_place};
 ghost use Rattle.reading.specs.Fields.{first_of, heading_in, row_in, finding_in};
-ghost use Rattle.reading.specs.Kinds.{FChecks, RChecks, AChecks, ZChecks};
+ghost use Rattle.reading.specs.Kinds.{F_checks, R_checks, A_checks, Z_checks};
 ghost use Rattle.reading.specs.Phases.{place_of, rows_in, findings_in};
 ghost use Rattle.reading.specs.Stepping.{Stepped};
 
@@ -89,7 +89,7 @@ impl<'a> Reader<'a> {
     // The heading, into the rows.
     fn heading(&mut self) -> Result<Option<Entry>, Fault>
         requires opening { place_of self.old.phase ≡ 0 }
-        ensures judged { answer (λ o. o) result ≡ checked (FChecks (place_of self.old.phase) self.old.rest.now) (Some (Entry.Heading (heading_in self.old.rest.now))) }
+        ensures judged { answer (λ o. o) result ≡ checked (F_checks (place_of self.old.phase) self.old.rest.now) (Some (Entry.Heading (heading_in self.old.rest.now))) }
         ensures taken { IfOk result (λ o. (h : Heading) × (o ≡ Some (Entry.Heading h)) × (self.new.phase ≡ Phase.Rows h 0) × (drop 1 self.old.rest.now ≡ heading_body h ++ self.new.rest.now)) }
         ensures refused { OnErr result (self.new ≡ self.old) }
     {
@@ -101,7 +101,7 @@ impl<'a> Reader<'a> {
     // A row after so many others.
     fn row(&mut self, heading: Heading, rows: u8) -> Result<Option<Entry>, Fault>
         requires placed { place_of self.old.phase ≡ row_place rows }
-        ensures judged { answer (λ o. o) result ≡ checked (RChecks heading.frame rows (place_of self.old.phase) self.old.rest.now) (row_in self.old.rest.now) }
+        ensures judged { answer (λ o. o) result ≡ checked (R_checks heading.frame rows (place_of self.old.phase) self.old.rest.now) (row_in self.old.rest.now) }
         ensures taken { IfOk result (λ o. (row : Row) × (o ≡ Some (Entry.Row row)) × (self.new.phase ≡ Phase.Rows heading (rows + 1)) × (drop 1 self.old.rest.now ≡ row_body row ++ self.new.rest.now)) }
         ensures refused { OnErr result (self.new ≡ self.old) }
     {
@@ -115,7 +115,7 @@ impl<'a> Reader<'a> {
     fn finding(&mut self, heading: Heading, rows: u8, findings: u8) -> Result<Option<Entry>, Fault>
         requires placed { place_of self.old.phase ≡ finding_place rows findings }
         requires few { rows ≤ most_rows }
-        ensures judged { answer (λ o. o) result ≡ checked (AChecks rows findings (place_of self.old.phase) self.old.rest.now) (Some (Entry.Finding (finding_in self.old.rest.now))) }
+        ensures judged { answer (λ o. o) result ≡ checked (A_checks rows findings (place_of self.old.phase) self.old.rest.now) (Some (Entry.Finding (finding_in self.old.rest.now))) }
         ensures taken { IfOk result (λ o. (f : Finding) × (o ≡ Some (Entry.Finding f)) × (self.new.phase ≡ Phase.Findings heading rows (findings + 1)) × (drop 1 self.old.rest.now ≡ finding_body f ++ self.new.rest.now)) }
         ensures refused { OnErr result (self.new ≡ self.old) }
     {
@@ -137,7 +137,7 @@ impl<'a> Reader<'a> {
         requires placed { place_of self.old.phase ≡ finding_place rows findings }
         requires few { rows ≤ most_rows }
         requires orderly { findings ≤ rows }
-        ensures judged { answer (λ o. o) result ≡ checked (ZChecks rows findings (place_of self.old.phase) self.old.rest.now) (Some (Entry.End (number_at 1 self.old.rest.now))) }
+        ensures judged { answer (λ o. o) result ≡ checked (Z_checks rows findings (place_of self.old.phase) self.old.rest.now) (Some (Entry.End (number_at 1 self.old.rest.now))) }
         ensures taken { IfOk result (λ o. (n : ℕ) × (o ≡ Some (Entry.End n)) × (self.new.phase ≡ Phase.Closed heading rows) × (drop 1 self.old.rest.now ≡ four n ++ self.new.rest.now)) }
         ensures refused { OnErr result (self.new ≡ self.old) }
     {
