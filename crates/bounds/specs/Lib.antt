@@ -1,5 +1,6 @@
 pub mod Instants
 pub mod Meaning
+pub mod Answering
 pub mod Laws
 pub mod Supplied
 pub mod Lemmas

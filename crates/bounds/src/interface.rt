@@ -1,8 +1,7 @@
 // What every bound answers, and the laws that it shows.
-ghost use Rattle.std.specs.Prelude.{◌≡◌, ◌+◌, ◌-◌, if◌then◌else◌, None};
-ghost use Rattle.rows.specs.Times.{horizon};
-ghost use Rattle.bounds.specs.Instants.{least};
+ghost use Rattle.std.specs.Prelude.{◌≡◌};
 ghost use Rattle.bounds.specs.Meaning.{Meaning, asked};
+ghost use Rattle.bounds.specs.Answering.{amount_answered, corner_answered};
 ghost use Rattle.bounds.specs.Laws.{Laws};
 
 use rows::{HORIZON, Row, is_frame};
@@ -17,11 +16,11 @@ pub trait Bound {
 
     // The most that the row can demand up to the instant, in parts of the frame.
     fn amount(&self, frame: u32, row: &Row, at: u32) -> u64
-        ensures { result ≡ (if asked frame row.now at then (meaning self.now).amount frame row.now at else 0) };
+        ensures { result ≡ amount_answered (meaning self.now) frame row.now at };
 
     // The row's least corner after the instant, up to the horizon.
     fn next_corner(&self, frame: u32, row: &Row, after: u32) -> Option<u32>
-        ensures { result ≡ (if asked frame row.now after then least ((meaning self.now).corner row.now) (horizon - after) (after + 1) else None) };
+        ensures { result ≡ corner_answered (meaning self.now) frame row.now after };
 
     // The accuracy k: no amount is more than (k + 1) / k times the exact steps.
     fn accuracy(&self) -> u32

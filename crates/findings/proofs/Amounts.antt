@@ -1,19 +1,20 @@
 -- The demand of rows that fit a frame: how large it is, and where it does not bend upward.
-use Rattle.std.proofs.Common.{◌≡◌, ℕ, suc, ◌+◌, ◌-◌, ◌*◌, ◌^◌, ◌<◌, ◌≤◌, true, false, cond, List, [], ◌∷◌, length, get_or, take, sum_by, sym, ap, ◌∙◌, subst, arith}
-use Rattle.std.specs.List.{AllByRecursion as All}
+use Rattle.std.proofs.Common.{◌≡◌, ℕ, suc, ◌+◌, ◌-◌, ◌*◌, ◌^◌, ◌<◌, ◌≤◌, true, false, cond, List, [], ◌∷◌, length, sum_by, refl, ap, ap₂, subst, arith}
+use Rattle.std.specs.List.{AllPass, list_any}
 use Rattle.std.proofs.lemmas.Nat.{mul-le}
-use Rattle.std.proofs.ByRecursion.{All-get_or, All-weaker, sum_by_le}
-use Rattle.std.proofs.lemmas.List.Sums.{sum_by-cons, sum_by_more, sum_by-take-le}
+use Rattle.std.proofs.lemmas.List.Elements.{All-head, All-tail, All-weaker}
+use Rattle.std.proofs.lemmas.List.Sums.{sum_by-cons, sum_by-le}
 use Rattle.std.proofs.lemmas.Bool.{and_from, and_parts, cond-true, le-leb, leb-true, leb-false, lt-leb, or_parts}
 use Rattle.rows.specs.declared.tasks.Row.{Row}
 use Rattle.rows.specs.Times.{horizon, is_frame}
 use Rattle.rows.specs.Counting.{on_frame}
 use Rattle.bounds.specs.Laws.{Laws}
 use Rattle.bounds.specs.Meaning.{Meaning, asked}
+use Rattle.bounds.specs.Answering.{amount_answered}
 use Rattle.bounds.proofs.Fitting.{largest, amount_small}
 use Rattle.findings.specs.Asking.{most_above}
 use Rattle.findings.specs.Demand.{Load, load, demand, rests}
-use Rattle.findings.specs.Points.{any, bend}
+use Rattle.findings.specs.Points.{bend}
 use Rattle.findings.specs.Fitting.{Stands, OnceThenOn}
 use Rattle.findings.proofs.Turning.{on_from}
 
@@ -30,41 +31,30 @@ frame_high h frame = leb-true h horizon (and_parts _ _ frame).1
 
 module _ {m : Meaning} (laws : Laws m) where
   -- a sum of amounts is at most as many times the largest
-  sum_small : (h : ℕ) (rs : List Row) (t : ℕ) → is_frame h ≡ true → All (λ r. on_frame h r ≡ true) rs → t ≤ horizon → sum_by (λ r. m.amount h r t) rs ≤ length rs * largest
+  sum_small : (h : ℕ) (rs : List Row) (t : ℕ) → is_frame h ≡ true → AllPass (on_frame h) rs → t ≤ horizon → sum_by (λ r. m.amount h r t) rs ≤ length rs * largest
   sum_small h rs t frame on near =
-      sum_by_le (λ r. m.amount h r t) largest rs (All-weaker (λ r. on_frame h r ≡ true) (λ r. m.amount h r t ≤ largest) (λ r o. amount_small laws h r t (is_asked h r t frame o near)) rs on)
+      sum_by-le (λ r. m.amount h r t) largest rs (All-weaker (λ r. on_frame h r ≡ true) (λ r. m.amount h r t ≤ largest) (λ r o. amount_small laws h r t (is_asked h r t frame o near)) rs on)
 
   -- a sum does not bend upward where none of its amounts has a corner
-  sum_bends : (h : ℕ) (rs : List Row) (t : ℕ) → is_frame h ≡ true → All (λ r. on_frame h r ≡ true) rs → suc t < horizon → any (λ r. m.corner r (suc t)) rs ≡ false
+  sum_bends : (h : ℕ) (rs : List Row) (t : ℕ) → is_frame h ≡ true → AllPass (on_frame h) rs → suc t < horizon → list_any (λ r. m.corner r (suc t)) rs ≡ false
       → sum_by (λ r. m.amount h r t) rs + sum_by (λ r. m.amount h r (suc (suc t))) rs ≤ 2 * sum_by (λ r. m.amount h r (suc t)) rs
   sum_bends h [] t frame on near none = omega arith
   sum_bends h (r ∷ rs) t frame on near none =
-      let parts = or_parts (m.corner r (suc t)) (any (λ r. m.corner r (suc t)) rs) none in
-      let here = laws.bends h r (suc t) (is_asked h r (suc t) frame on.0 (omega arith)) (omega arith) near parts.0 in
+      let parts = or_parts (m.corner r (suc t)) (list_any (λ r. m.corner r (suc t)) rs) none in
+      let here = laws.bends h r (suc t) (is_asked h r (suc t) frame (All-head (λ s. on_frame h s ≡ true) r rs on) (omega arith)) (omega arith) near parts.0 in
       let e : suc t - 1 ≡ t = omega arith in
       let e' : suc t + 1 ≡ suc (suc t) = omega arith in
       let low = ap (m.amount h r) e in
       let high = ap (m.amount h r) e' in
       rw (sum_by-cons (λ r. m.amount h r t) r rs, sum_by-cons (λ r. m.amount h r (suc t)) r rs, sum_by-cons (λ r. m.amount h r (suc (suc t))) r rs)
-      (omega (arith, sum_bends h rs t frame on.1 near parts.1))
+      (omega (arith, sum_bends h rs t frame (All-tail (λ s. on_frame h s ≡ true) r rs on) near parts.1))
 
--- one row more adds its amount, as the bound answers it
-pub demand_more : (m : Meaning) (h own : ℕ) (rs : List Row) (i : ℕ) (r : Row) (t a : ℕ) → i < length rs → r ≡ get_or rs i r → asked h r t ≡ true → a ≡ cond (asked h r t) (m.amount h r t) 0
-    → demand (load m h own (take i rs)) t + a ≡ demand (load m h own (take (i + 1) rs)) t
-demand_more m h own rs i r t a within read asks answered =
-    let more = sum_by_more (λ s. m.amount h s t) rs i r within in
-    let amount = answered ∙ cond-true _ _ _ asks in
-    omega (arith, ap (λ s. m.amount h s t) read)
-
--- the rows seen so far demand no more than all of them
-pub demand_so_far : (m : Meaning) (h own : ℕ) (rs : List Row) (i t : ℕ) → demand (load m h own (take i rs)) t ≤ demand (load m h own rs) t
-demand_so_far m h own rs i t = omega (arith, sum_by-take-le (λ s. m.amount h s t) rs i)
-
--- a row above is one that the bound is asked about
-pub asked_above : (h : ℕ) (above : List Row) → Stands h above → (i : ℕ) (r : Row) (t : ℕ) → i < length above → r ≡ get_or above i r → t ≤ horizon → asked h r t ≡ true
-asked_above h above stands i r t within read near =
-    let on = All-get_or (λ s. on_frame h s ≡ true) above i r within stands.on in
-    is_asked h r t stands.frame (subst (λ s. on_frame h s ≡ true) (sym read) on) near
+-- what a bound answers about rows on the frame are the amounts of its meaning
+pub sum_answered : (m : Meaning) (h : ℕ) (rs : List Row) (t : ℕ) → is_frame h ≡ true → AllPass (on_frame h) rs → t ≤ horizon → sum_by (λ r. amount_answered m h r t) rs ≡ sum_by (λ r. m.amount h r t) rs
+sum_answered m h [] t frame on near = refl
+sum_answered m h (r ∷ rs) t frame on near =
+    let here = cond-true (asked h r t) (m.amount h r t) 0 (is_asked h r t frame (All-head (λ s. on_frame h s ≡ true) r rs on) near) in
+    rw (sum_by-cons (λ s. amount_answered m h s t) r rs, sum_by-cons (λ s. m.amount h s t) r rs) (ap₂ (λ x y. x + y) here (sum_answered m h rs t frame (All-tail (λ s. on_frame h s ≡ true) r rs on) near))
 
 module _ (l : Load) (laws : Laws l.bound) (stands : Stands l.frame l.above) where
   -- the demand fits 64 bits with room to spare

@@ -1,19 +1,17 @@
--- The first test point over the rows seen so far, one row more at a time.
-use Rattle.std.proofs.Common.{◌≡◌, ℕ, ◌+◌, ◌-◌, ◌<◌, ◌≤◌, min, Bool, true, false, cond, ◌&&◌, ◌||◌, eqb, ltb, List, [], ◌∷◌, ◌++◌, length, get_or, take, Some, None, Option, sym, refl, ap, ◌∙◌, subst, ⊎_elim, arith, MatchOption}
-use mathlib.Core.Bool.{or_assoc, or_comm}
-use Rattle.std.proofs.lemmas.List.{take_more}
-use Rattle.std.proofs.lemmas.Bool.{and_from, and_right, cases_lt, cond-true, lt-ltb, or_from, or_left, or_right}
+-- The nearest test point, one row after the other.
+use Rattle.std.proofs.Common.{◌≡◌, ℕ, ◌+◌, ◌-◌, ◌<◌, ◌≤◌, min, Bool, true, false, cond, ◌&&◌, ◌||◌, eqb, ltb, List, [], ◌∷◌, fold, Some, None, Option, sym, refl, ap, ◌∙◌, subst, ⊎_elim, arith, MatchOption}
+use Rattle.std.specs.List.{AllPass, list_any, cons_option, filter_map}
+use Rattle.std.proofs.lemmas.List.Elements.{All-head, All-tail}
+use Rattle.std.proofs.lemmas.Bool.{and_from, and_right, cases_lt, cond-true, eq-eqb, lt-ltb, ne_eqb, or_from, or_left, or_right}
 use Rattle.rows.specs.declared.tasks.Row.{Row}
-use Rattle.rows.specs.Times.{horizon}
+use Rattle.rows.specs.Counting.{on_frame}
+use Rattle.rows.specs.Times.{horizon, is_frame}
 use Rattle.bounds.specs.Instants.{least, First}
-use Rattle.bounds.specs.Meaning.{Meaning, asked}
+use Rattle.bounds.specs.Meaning.{Meaning}
+use Rattle.bounds.specs.Answering.{corner_answered}
 use Rattle.bounds.specs.Lemmas.Instants.{least_after}
-use Rattle.findings.specs.Points.{any, test_point}
-
--- one element more passes where the front or it does
-any_push : {X : Type 0} (p : X → Bool) (xs : List X) (x : X) → any p (xs ++ x ∷ []) ≡ (any p xs || p x)
-any_push p [] x = or_comm (p x) false
-any_push p (y ∷ xs) x = ap (λ b. p y || b) (any_push p xs x) ∙ sym (or_assoc (p y) (any p xs) (p x))
+use Rattle.findings.specs.Points.{test_point}
+use Rattle.findings.proofs.Amounts.{is_asked}
 
 -- a first instant is one for another test that finds nothing earlier and holds there
 first_like : (p q : ℕ → Bool) (s e t : ℕ) → First p s e t → (p t ≡ true → q t ≡ true) → ((i : ℕ) → s < i → i < t → p i ≡ false → q i ≡ false) → First q s e t
@@ -24,48 +22,67 @@ first_like p q s e t first here none = record {
   none = λ i low high. none i low high (first.none i low high);
 }
 
-module _ (m : Meaning) (h last : ℕ) (rs : List Row) (i : ℕ) (r : Row) (within : i < length rs) (read : r ≡ get_or rs i r) where
-  -- the test points with the rows seen so far, and with one more
-  abbrev seen : ℕ → Bool
-  seen = test_point m (take i rs) last
-
+module _ (m : Meaning) (last : ℕ) (r : Row) (seen : ℕ → Bool) where
+  -- the instants seen so far, and with them the corners of one row more before the last instant
   abbrev seen_more : ℕ → Bool
-  seen_more = test_point m (take (i + 1) rs) last
+  seen_more t = seen t || (ltb t last && m.corner r t)
 
-  -- with one row more, the test points gain its corners before the last instant
-  gains : (t : ℕ) → seen_more t ≡ (seen t || (ltb t last && m.corner r t))
-  gains t =
-      let more : any (λ s. m.corner s t) (take (i + 1) rs) ≡ (any (λ s. m.corner s t) (take i rs) || m.corner r t) = ap (any (λ s. m.corner s t)) (take_more rs i r within ∙ ap (λ y. take i rs ++ y ∷ []) (sym read)) ∙ any_push (λ s. m.corner s t) (take i rs) r in
-      ap (λ b. eqb t last || (ltb t last && b)) more ∙ spread (eqb t last) (ltb t last) (any (λ s. m.corner s t) (take i rs)) (m.corner r t)
-    where
-      spread : (a b x y : Bool) → (a || (b && (x || y))) ≡ ((a || (b && x)) || (b && y))
-      spread true b x y = refl
-      spread false true x y = refl
-      spread false false x y = refl
-
-  -- where the row has no corner before the first test point, that stays the first
+  -- where the row has no corner before the first instant seen, that stays the first
   stays : (after t : ℕ) → First seen after last t → ((j : ℕ) → after < j → j < t → m.corner r j ≡ false) → First seen_more after last t
   stays after t first none =
-      first_like seen seen_more after last t first (λ e. gains t ∙ or_left (seen t) _ e) (λ j low high e. gains j ∙ or_from (seen j) _ e (and_right (ltb j last) (m.corner r j) (none j low high)))
+      first_like seen seen_more after last t first (λ e. or_left (seen t) _ e) (λ j low high e. or_from (seen j) _ e (and_right (ltb j last) (m.corner r j) (none j low high)))
 
   -- a corner of the row before it takes its place
   comes : (after t c e : ℕ) → First seen after last t → c < t → First (m.corner r) after e c → First seen_more after last c
   comes after t c e first before corner = record {
     after = corner.after;
     within = omega (arith, first.within);
-    holds = gains c ∙ or_right (seen c) _ (and_from (ltb c last) (m.corner r c) (lt-ltb c last (omega (arith, first.within))) corner.holds);
-    none = λ j low high. gains j ∙ or_from (seen j) _ (first.none j low (omega arith)) (and_right (ltb j last) (m.corner r j) (corner.none j low high));
+    holds = or_right (seen c) _ (and_from (ltb c last) (m.corner r c) (lt-ltb c last (omega (arith, first.within))) corner.holds);
+    none = λ j low high. or_from (seen j) _ (first.none j low (omega arith)) (and_right (ltb j last) (m.corner r j) (corner.none j low high));
   }
 
-  -- so the first is the nearer of it and the row's next corner, as the bound answers it
-  pub nearest_more : (after t : ℕ) → after < last → last ≤ horizon → First seen after last t → asked h r after ≡ true
-      → (o : Option ℕ) → o ≡ cond (asked h r after) (least (m.corner r) (horizon - after) (after + 1)) None
+  -- so the first is the nearer of it and the row's next corner
+  nearer : (after t : ℕ) → last ≤ horizon → First seen after last t → (o : Option ℕ)
+      → MatchOption o ((j : ℕ) → after < j → j ≤ after + (horizon - after) → m.corner r j ≡ false) (First (m.corner r) after (after + (horizon - after)))
       → MatchOption o (First seen_more after last t) (λ c. First seen_more after last (min t c))
-  nearest_more after t before near first asks o is = at o (subst (λ x. MatchOption x ((j : ℕ) → after < j → j ≤ after + (horizon - after) → m.corner r j ≡ false) (First (m.corner r) after (after + (horizon - after)))) (sym (is ∙ cond-true _ _ _ asks)) (least_after (m.corner r) (horizon - after) after))
+  nearer after t near first None none = stays after t first (λ j low high. none j low (omega (arith, first.after, first.within)))
+  nearer after t near first (Some c) corner =
+      ⊎_elim (λ (early : c < t). let e : c ≡ min t c = omega arith in subst (First seen_more after last) e (comes after t c _ first early corner))
+      (λ (late : t ≤ c). let e : t ≡ min t c = omega arith in subst (First seen_more after last) e (stays after t first (λ j low high. corner.none j low (omega arith))))
+      (cases_lt c t)
+
+module _ (m : Meaning) (h last after : ℕ) (frame : is_frame h ≡ true) (near : last ≤ horizon) (before : after < last) where
+  -- the nearest of an instant and the corners of rows
+  abbrev nearest : ℕ → List Row → ℕ
+  nearest t rs = fold min t (filter_map (λ r. corner_answered m h r after) rs)
+
+  -- is the first of the instants seen so far, of which t is the first, and of the corners of the rows
+  abbrev Leads : List Row → (ℕ → Bool) → ℕ → Type 0
+  Leads rs seen t = AllPass (on_frame h) rs → First seen after last t → First (λ i. seen i || (ltb i last && list_any (λ r. m.corner r i) rs)) after last (nearest t rs)
+
+  first_nearest : (rs : List Row) (seen : ℕ → Bool) (t : ℕ) → Leads rs seen t
+  first_nearest [] seen t on first = first_like seen _ after last t first (λ e. or_left (seen t) _ e) (λ j low high e. or_from (seen j) _ e (and_right (ltb j last) false refl))
+  first_nearest (r ∷ rs) seen t on first =
+      step (corner_answered m h r after) (first_nearest rs (seen_more m last r seen))
+      (nearer m last r seen after t near first _ (subst (λ o. MatchOption o ((j : ℕ) → after < j → j ≤ after + (horizon - after) → m.corner r j ≡ false) (First (m.corner r) after (after + (horizon - after)))) (sym answered) (least_after (m.corner r) (horizon - after) after)))
     where
-      at : (o : Option ℕ) → MatchOption o ((j : ℕ) → after < j → j ≤ after + (horizon - after) → m.corner r j ≡ false) (First (m.corner r) after (after + (horizon - after))) → MatchOption o (First seen_more after last t) (λ c. First seen_more after last (min t c))
-      at None none = stays after t first (λ j low high. none j low (omega (arith, first.within)))
-      at (Some c) corner =
-          ⊎_elim (λ (early : c < t). let e : c ≡ min t c = omega arith in subst (First seen_more after last) e (comes after t c _ first early corner))
-          (λ (late : t ≤ c). let e : t ≡ min t c = omega arith in subst (First seen_more after last) e (stays after t first (λ j low high. corner.none j low (omega arith))))
-          (cases_lt c t)
+      answered : corner_answered m h r after ≡ least (m.corner r) (horizon - after) (after + 1)
+      answered = cond-true _ _ _ (is_asked h r after frame (All-head (λ s. on_frame h s ≡ true) r rs on) (omega arith))
+      spread : (a b x y : Bool) → ((a || (b && x)) || (b && y)) ≡ (a || (b && (x || y)))
+      spread true b x y = refl
+      spread false true x y = refl
+      spread false false x y = refl
+      with_row : (u : ℕ) → Leads rs (seen_more m last r seen) u → First (seen_more m last r seen) after last u → First (λ i. seen i || (ltb i last && (m.corner r i || list_any (λ s. m.corner s i) rs))) after last (nearest u rs)
+      with_row u rest found =
+          first_like _ _ after last (nearest u rs) (rest (All-tail (λ s. on_frame h s ≡ true) r rs on) found)
+          (λ e. sym (spread (seen (nearest u rs)) (ltb (nearest u rs) last) (m.corner r (nearest u rs)) (list_any (λ s. m.corner s (nearest u rs)) rs)) ∙ e)
+          (λ j low high e. sym (spread (seen j) (ltb j last) (m.corner r j) (list_any (λ s. m.corner s j) rs)) ∙ e)
+      step : (o : Option ℕ) → ((u : ℕ) → Leads rs (seen_more m last r seen) u) → MatchOption o (First (seen_more m last r seen) after last t) (λ c. First (seen_more m last r seen) after last (min t c))
+          → First (λ i. seen i || (ltb i last && (m.corner r i || list_any (λ s. m.corner s i) rs))) after last (fold min t (cons_option o (filter_map (λ s. corner_answered m h s after) rs)))
+      step None rest found = with_row t (rest t) found
+      step (Some c) rest found = with_row (min t c) (rest (min t c)) found
+
+  -- from the last instant on, it is the first test point
+  pub first_test_point : (rs : List Row) → AllPass (on_frame h) rs → First (test_point m rs last) after last (nearest last rs)
+  first_test_point rs on =
+      first_nearest rs (λ i. eqb i last) last on (record { after = before; within = omega arith; holds = eq-eqb last last refl; none = λ j low high. ne_eqb j last (λ e. omega arith) })

@@ -1,9 +1,9 @@
 -- The findings of a table, place by place.
 use Rattle.std.proofs.Common.{◌≡◌, ℕ, zero, suc, ◌+◌, ◌-◌, ◌<◌, ◌≤◌, true, ◌≢◌, ◌⊎◌, List, [], ◌∷◌, ◌++◌, length, get_or, take, drop, set, sym, refl, ap, ◌∙◌, subst, ap₂, inl, inr, ⊎_elim, arith}
 use lib.Seq.{paste}
-use Rattle.std.specs.List.{AllByRecursion as All}
+use Rattle.std.specs.List.{AllPass}
 use Rattle.std.proofs.lemmas.List.Edits.{paste_none, paste_more, paste_all}
-use Rattle.std.proofs.ByRecursion.{All-take}
+use Rattle.std.proofs.lemmas.List.Elements.{All-take}
 use Rattle.std.proofs.lemmas.List.{append_assoc, append-nil, get_or-drop, get_or-set_other, length-take, take_at}
 use Rattle.std.proofs.lemmas.Bool.{cases_lt}
 use Rattle.rows.specs.declared.tasks.Row.{Row}
@@ -52,7 +52,7 @@ counted_at m h rows from i r f last late within read at-window found =
 pub table_says : (m : Meaning) (h : ℕ) (rows : List Row) → Laws m → Stands h rows → TableSays m h rows
 table_says m h rows laws stands xs ys r split =
     let front = ap (take (length xs)) split ∙ take_at xs (r ∷ ys) (length xs) refl in
-    let on = subst (All (λ s. on_frame h s ≡ true)) front (All-take (λ s. on_frame h s ≡ true) (length xs) rows stands.on) in
+    let on = subst (AllPass (on_frame h)) front (All-take (λ s. on_frame h s ≡ true) (length xs) rows stands.on) in
     finding_says (load m h r.work xs) (window r) laws (record { frame = stands.frame; on = on }) r.busy (omega arith)
 
 -- new elements put into a list from a place on, one after another

@@ -1,6 +1,6 @@
 -- What is known of rows once they have passed their checks.
 use Rattle.std.specs.Prelude.{◌≡◌, ℕ, ◌<◌, ◌≤◌, Bool, true, List, length}
-use Rattle.std.specs.List.{AllByRecursion as All}
+use Rattle.std.specs.List.{AllPass}
 use Rattle.rows.specs.declared.tasks.Row.{Row}
 use Rattle.rows.specs.Times.{is_frame, most_rows}
 use Rattle.rows.specs.Counting.{on_frame}
@@ -8,7 +8,7 @@ use Rattle.rows.specs.Counting.{on_frame}
 -- the frame is one, and all rows stand on it
 pub record Stands (h : ℕ) (rows : List Row) : Type 0 where
   pub frame : is_frame h ≡ true
-  pub on : All (λ r. on_frame h r ≡ true) rows
+  pub on : AllPass (on_frame h) rows
 
 -- so they do, and there are at most so many
 pub record Fit (most h : ℕ) (rows : List Row) : Type 0 where

@@ -20,12 +20,7 @@ const MOST_ABOVE: usize = MOST_ROWS - 1;
 pub(crate) fn standing(frame: u32, rows: &[Row]) -> usize
     ensures { result ≡ standing frame rows.now }
 {
-    for (i, row) in rows.iter().enumerate() {
-        if !row.stands_on(frame) {
-            return i;
-        }
-    }
-    rows.len()
+    rows.iter().take_while(|row| row.stands_on(frame)).count()
 }
 
 // What is checked of a question before anything is counted.

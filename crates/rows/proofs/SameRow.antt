@@ -4,9 +4,10 @@ use mathlib.Core.HLevel.{is_prop→PathP}
 use mathlib.Core.Logic.{dif_pos}
 use native.Mathlib.Decide.{dec_le}
 use native.Mathlib.Bridge.{le_prop}
+use Rattle.std.specs.List.{cons_option}
 use Rattle.rows.specs.declared.tasks.Row.{Row}
 use Rattle.rows.specs.Times.{horizon}
-use Rattle.rows.specs.Judging.{plain, row_of, kept, rows_of}
+use Rattle.rows.specs.Judging.{plain, row_of, rows_of}
 
 -- rows with the same numbers are the same row
 pub same_row : (r s : Row) → plain r ≡ plain s → r ≡ s
@@ -44,4 +45,4 @@ row_of_plain r =
 -- and so it is with lists of rows
 pub rows_of_plain : (rs : List Row) → rows_of (map plain rs) ≡ rs
 rows_of_plain [] = refl
-rows_of_plain (r ∷ rs) = ap₂ kept (row_of_plain r) (rows_of_plain rs)
+rows_of_plain (r ∷ rs) = ap₂ cons_option (row_of_plain r) (rows_of_plain rs)

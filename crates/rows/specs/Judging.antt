@@ -1,5 +1,6 @@
 -- When four numbers are a row.
 use Rattle.std.specs.Prelude.{ℕ, ◌+◌, ◌%◌, Bool, not, List, [], ◌∷◌, ◌++◌, map, Some, None, Option, ◌==◌, nat_eq, nat_lt}
+use Rattle.std.specs.List.{filter_map}
 use Rattle.std.proofs.Math.Logic.{dite}
 use Rattle.std.proofs.Math.Decide.{dec_le}
 use Rattle.rows.specs.declared.tasks.Numbers.{Numbers}
@@ -47,12 +48,6 @@ row_of n =
     Some (record { work = n.work; deadline = n.deadline; period = n.period; jitter = n.jitter; busy = busy; roomy = roomy; timely = timely; near = near }))
     (λ _. None)) (λ _. None)) (λ _. None)) (λ _. None)
 
--- the row that may be there, before others
-abbrev pub kept : Option Row → List Row → List Row
-kept None rs = rs
-kept (Some r) rs = r ∷ rs
-
 -- the rows of a list of numbers: of those that are rows, in their order
 abbrev pub rows_of : List Numbers → List Row
-rows_of [] = []
-rows_of (n ∷ ns) = kept (row_of n) (rows_of ns)
+rows_of ns = filter_map row_of ns
