@@ -1,8 +1,8 @@
 -- A finding by a bound lies between the exact findings at full speed and at a lower one.
 use Rattle.std.proofs.Common.{◌≡◌, ℕ, ◌+◌, ◌*◌, ◌≤◌, true, List, [], ◌∷◌, ◌++◌, sum_by, sym, ◌∙◌, arith}
-use Rattle.std.specs.List.{AllByRecursion as All}
+use Rattle.std.specs.List.{All}
 use Rattle.std.proofs.lemmas.Nat.{mul-le}
-use Rattle.std.proofs.ByRecursion.{All-weaker}
+use Rattle.std.proofs.lemmas.List.Elements.{All-head, All-tail, All-weaker}
 use Rattle.std.proofs.lemmas.List.Sums.{sum_by-append, sum_by-cons}
 use Rattle.std.proofs.lemmas.Bool.{le-leb, leb-true}
 use Rattle.rows.specs.declared.tasks.Row.{Row}
@@ -23,7 +23,7 @@ use Rattle.brackets.proofs.Earlier.{no_later, none_later}
 -- a sum of smaller amounts is smaller
 sums_le : {X : Type 0} (f g : X → ℕ) (xs : List X) → All (λ x. f x ≤ g x) xs → sum_by f xs ≤ sum_by g xs
 sums_le f g [] _ = omega arith
-sums_le f g (x ∷ xs) all = rw (sum_by-cons f x xs, sum_by-cons g x xs) (omega (arith, all.0, sums_le f g xs all.1))
+sums_le f g (x ∷ xs) all = rw (sum_by-cons f x xs, sum_by-cons g x xs) (omega (arith, All-head (λ y. f y ≤ g y) x xs all, sums_le f g xs (All-tail (λ y. f y ≤ g y) x xs all)))
 
 -- what rests by larger amounts rests by smaller ones
 pub rests_by_less : (m m' : Meaning) (h own : ℕ) (above : List Row) (t : ℕ) → All (λ s. m.amount h s t ≤ m'.amount h s t) above

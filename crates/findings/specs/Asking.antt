@@ -1,10 +1,10 @@
 -- When a question about a row below others is refused.
 use Rattle.std.specs.Prelude.{ℕ, ◌+◌, ◌-◌, not, List, [], ◌∷◌, ◌++◌, length, nat_lt}
-use Rattle.std.specs.List.{take_while}
 use Rattle.rows.specs.declared.tasks.Row.{Row}
 use Rattle.rows.specs.Answers.{Check, check}
 use Rattle.rows.specs.Times.{is_frame, most_rows}
 use Rattle.rows.specs.Counting.{on_frame}
+use Rattle.rows.specs.Lists.{leading}
 
 -- one row of a table less: at most so many stand above another
 abbrev pub most_above : ℕ
@@ -12,7 +12,7 @@ most_above = most_rows - 1
 
 -- how many rows from the top stand on the frame
 abbrev pub standing : ℕ → List Row → ℕ
-standing h rows = length (take_while (on_frame h) rows)
+standing h rows = leading (on_frame h) rows
 
 -- what is checked, in order: bad frame; full table; off frame with the smallest rank concerned,
 -- where the rows above have the ranks from 1 on and the row asked about the next one

@@ -1,5 +1,9 @@
--- What a call that fills part of a list leaves.
-use Rattle.std.specs.Prelude.{◌≡◌, ℕ, ◌+◌, ◌<◌, ◌≤◌, ◌⊎◌, List, ◌++◌, length, take, drop, slice_index_or}
+-- What is said of lists.
+use Rattle.std.specs.Prelude.{◌≡◌, ℕ, ◌+◌, ◌<◌, ◌≤◌, ◌⊎◌, Bool, List, ◌++◌, length, take, drop, take_while, slice_index_or}
+
+-- how many elements, from the front on, pass a test
+abbrev pub leading : {X : Type 0} → (X → Bool) → List X → ℕ
+leading p xs = length (take_while p xs)
 
 -- a list with new elements written over it from place i on: the places before i and those past the new elements stay
 abbrev pub written : {X : Type 0} → List X → ℕ → List X → List X

@@ -1,49 +1,46 @@
 -- The checks of a table with one place more: the graver of what is told of the table and of the place.
-use Rattle.std.proofs.Common.{◌≡◌, ℕ, suc, ◌+◌, ◌<◌, ◌≤◌, Bool, true, false, cond, not, ltb, leb, List, [], ◌∷◌, ◌++◌, length, sym, refl, ap, ◌∙◌, arith}
-use Rattle.std.specs.List.{prefix_len, AllByRecursion as All}
-use Rattle.std.proofs.ByRecursion.{All-map}
+use Rattle.std.proofs.Common.{◌≡◌, ℕ, ◌+◌, ◌<◌, ◌≤◌, Bool, true, false, cond, not, ltb, leb, List, [], ◌∷◌, ◌++◌, length, map, sym, refl, ap, ◌∙◌, subst, arith}
+use Rattle.std.specs.List.{prefix_len}
+use Rattle.std.proofs.lemmas.List.Folds.{length-prefix_len, prefix_len-append}
+use Rattle.std.proofs.lemmas.List.Sums.{prefix_len-le-length}
 use Rattle.std.proofs.lemmas.List.{length_push}
-use Rattle.std.proofs.lemmas.Bool.{cond-false, cond-true, le-leb, le-ltb, lt-leb, lt-ltb, ltb-false, ltb-true, not_from_false, not_from_true}
+use Rattle.std.proofs.lemmas.Bool.{cond-false, cond-true, eq-eqb, ne_eqb, le-leb, le-ltb, lt-leb, lt-ltb, ltb-false, ltb-true, not_from_false, not_from_true}
 use Rattle.rows.specs.declared.tasks.Numbers.{Numbers}
 use Rattle.rows.specs.Answers.{Answer, gives, refuses, Check, checked}
 use Rattle.rows.specs.Judging.{Flaw, flaw_checks}
+use Rattle.rows.specs.Lists.{leading}
 use Rattle.tables.specs.Surveys.{free, flaws_in}
 use Rattle.tables.specs.Judgement.{graver}
 
 -- a front that ended early does not grow with one element more
-leading_ended : {X : Type 0} (p : X → Bool) (xs : List X) (x : X) → prefix_len p xs < length xs → prefix_len p (xs ++ x ∷ []) ≡ prefix_len p xs
-leading_ended p [] x early = absurd (let z : ⊥ = omega arith in z)
-leading_ended p (y ∷ xs) x early = at (p y) (leading_ended p xs x) early
-  where
-    at : (b : Bool) → (prefix_len p xs < length xs → prefix_len p (xs ++ x ∷ []) ≡ prefix_len p xs) → cond b (1 + prefix_len p xs) 0 < suc (length xs) → cond b (1 + prefix_len p (xs ++ x ∷ [])) 0 ≡ cond b (1 + prefix_len p xs) 0
-    at true later early = ap (λ n. 1 + n) (later (omega arith))
-    at false later early = refl
+leading_ended : {X : Type 0} (p : X → Bool) (xs : List X) (x : X) → leading p xs < length xs → leading p (xs ++ x ∷ []) ≡ leading p xs
+leading_ended p xs x early =
+    length-prefix_len p (xs ++ x ∷ []) ∙ prefix_len-append p xs (x ∷ [])
+    ∙ cond-false _ _ _ (ne_eqb (prefix_len p xs) (length xs) (λ e. omega (arith, length-prefix_len p xs))) ∙ sym (length-prefix_len p xs)
 
 -- a front that is the whole list grows by one element that passes
-leading_whole : {X : Type 0} (p : X → Bool) (xs : List X) (x : X) → length xs ≤ prefix_len p xs → prefix_len p (xs ++ x ∷ []) ≡ length xs + cond (p x) 1 0
-leading_whole p [] x whole = at (p x)
-  where
-    at : (b : Bool) → cond b (1 + 0) 0 ≡ 0 + cond b 1 0
-    at true = refl
-    at false = refl
-leading_whole p (y ∷ xs) x whole = at (p y) (leading_whole p xs x) whole
-  where
-    at : (b : Bool) → (length xs ≤ prefix_len p xs → prefix_len p (xs ++ x ∷ []) ≡ length xs + cond (p x) 1 0) → suc (length xs) ≤ cond b (1 + prefix_len p xs) 0 → cond b (1 + prefix_len p (xs ++ x ∷ [])) 0 ≡ suc (length xs) + cond (p x) 1 0
-    at true later whole = let l = later (omega arith) in omega arith
-    at false later whole = absurd (let z : ⊥ = omega arith in z)
+leading_whole : {X : Type 0} (p : X → Bool) (xs : List X) (x : X) → length xs ≤ leading p xs → leading p (xs ++ x ∷ []) ≡ length xs + cond (p x) 1 0
+leading_whole p xs x whole =
+    length-prefix_len p (xs ++ x ∷ []) ∙ prefix_len-append p xs (x ∷ [])
+    ∙ cond-true _ _ _ (eq-eqb (prefix_len p xs) (length xs) (omega (arith, length-prefix_len p xs, prefix_len-le-length p xs)))
 
 -- an answer refuses with no number up to k
 abbrev Past : {A : Type 0} → ℕ → Answer A → Type 0
 Past k (gives x) = Unit {0}
 Past k (refuses number at) = k < number
 
--- checks whose numbers are past k refuse with no number up to k
-past_checked : {A : Type 0} (k : ℕ) (cs : List Check) (x : A) → All (λ c. k < c.refusal) cs → Past k (checked cs x)
-past_checked k [] x past = tt
-past_checked k (c ∷ cs) x past = at c.wrong (past_checked k cs x past.1)
+-- flaws whose numbers are all past k
+abbrev pub Above : ℕ → List Flaw → Type 0
+Above k [] = Unit {0}
+Above k (f ∷ fs) = (k < f.refusal) × Above k fs
+
+-- checks for such flaws refuse with no number up to k
+past_checked : {A : Type 0} (k : ℕ) (to : Flaw → Check) (fs : List Flaw) (x : A) → ((f : Flaw) → (to f).refusal ≡ f.refusal) → Above k fs → Past k (checked (map to fs) x)
+past_checked k to [] x same above = tt
+past_checked k to (f ∷ fs) x same above = at (to f).wrong (past_checked k to fs x same above.1)
   where
-    at : (b : Bool) → Past k (checked cs x) → Past k (cond b (refuses c.refusal c.at) (checked cs x))
-    at true later = past.0
+    at : (b : Bool) → Past k (checked (map to fs) x) → Past k (cond b (refuses (to f).refusal (to f).at) (checked (map to fs) x))
+    at true later = subst (λ n. k < n) (sym (same f)) above.0
     at false later = later
 
 -- a refusal comes before answers that refuse with no number up to its own
@@ -58,7 +55,7 @@ second_graver B k p (refuses number at) past = cond-false (leb number k) _ _ (lt
 -- the refusals of a list of flaws have rising numbers
 abbrev pub Ascending : List Flaw → Type 0
 Ascending [] = Unit {0}
-Ascending (f ∷ fs) = All (λ g. f.refusal < g.refusal) fs × Ascending fs
+Ascending (f ∷ fs) = Above f.refusal fs × Ascending fs
 
 module _ (xs : List Numbers) (x : Numbers) where
   -- the table with one place more, whose rank is the last
@@ -96,6 +93,6 @@ module _ (xs : List Numbers) (x : Numbers) where
   flaws_more v [] rising = refl
   flaws_more v (f ∷ fs) rising =
       one_flaw f (checked (flaws_in fs xs) tt) (checked (flaws_in fs wide) tt) (checked (flaw_checks fs x rank) v) _ _ refl refl
-      (past_checked f.refusal (flaws_in fs xs) tt (All-map (λ c. f.refusal < c.refusal) _ fs rising.0))
-      (past_checked f.refusal (flaw_checks fs x rank) v (All-map (λ c. f.refusal < c.refusal) _ fs rising.0))
+      (past_checked f.refusal _ fs tt (λ g. refl) rising.0)
+      (past_checked f.refusal _ fs v (λ g. refl) rising.0)
       (flaws_more v fs rising.1)

@@ -1,14 +1,14 @@
 -- The survey of a whole table of numbers that nobody has judged yet.
 use Rattle.std.specs.Prelude.{ℕ, ◌+◌, not, List, ◌++◌, map, length, nat_lt}
-use Rattle.std.specs.List.{prefix_len}
 use Rattle.rows.specs.declared.tasks.Numbers.{Numbers}
 use Rattle.rows.specs.Answers.{Check, check}
 use Rattle.rows.specs.Judging.{Flaw, frame_flaws}
+use Rattle.rows.specs.Lists.{leading}
 use Rattle.findings.specs.Asking.{size_checks}
 
 -- how many places of a table, from the top, are free of a flaw
 abbrev pub free : Flaw → List Numbers → ℕ
-free f table = prefix_len (λ n. not (f.wrong n)) table
+free f table = leading (λ n. not (f.wrong n)) table
 
 -- the checks of a whole table for flaws, in their order: each is made at every rank before the next,
 -- and tells the smallest rank that has the flaw
