@@ -1,6 +1,6 @@
 -- What a leaf holds, and its bytes.
 use Rattle.std.specs.Prelude.{◌≡◌, ℕ, ◌+◌, ◌^◌, ◌<◌, ◌≤◌, true, false, List, [], ◌∷◌, ◌++◌, map, length}
-use Rattle.std.specs.List.{flat_map, AllByRecursion as All}
+use Rattle.std.specs.List.{flat_map, All, AllPass}
 use Rattle.rows.specs.declared.tasks.Row.{Row}
 use Rattle.rows.specs.Answers.{Passes}
 use Rattle.rows.specs.Counting.{on_frame}
@@ -39,6 +39,6 @@ pub record Filable (f : Finding) : Type 0 where
 pub record Lawful (c : Contents) : Type 0 where
   pub heading : Passes (heading_checks c.heading 0)
   pub few : length c.rows ≤ most_rows
-  pub on : All (λ r. on_frame c.heading.frame r ≡ true) c.rows
+  pub on : AllPass (on_frame c.heading.frame) c.rows
   pub good : All Filable c.findings
   pub even : length c.findings ≡ length c.rows

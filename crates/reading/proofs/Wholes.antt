@@ -1,6 +1,7 @@
 -- Whole leaves: contents and the entries that reach the closed phase.
 use Rattle.std.proofs.Common.{◌≡◌, ℕ, suc, ◌+◌, ◌<◌, ◌≤◌, true, false, List, [], ◌∷◌, ◌++◌, map, length, Some, None, Option, sym, refl, ap, ◌∙◌, subst, ap₂, arith}
-use Rattle.std.specs.List.{AllByRecursion as All}
+use Rattle.std.specs.List.{All, AllPass}
+use Rattle.std.proofs.lemmas.List.Elements.{All-cons, All-head, All-nil, All-tail}
 use Rattle.std.proofs.lemmas.List.{append-nil}
 use Rattle.std.proofs.lemmas.Bool.{false≢true}
 use Rattle.rows.specs.declared.tasks.Row.{Row}
@@ -35,18 +36,18 @@ run_more here later = record { well = (here, later.well); ends = later.ends }
 findings_run : (h : Heading) (n m : ℕ) (fs : List Finding) → All Filable fs → m + length fs ≡ n → Run (Findings h n m) (map finding fs ++ end (1 + n + n) ∷ []) (Closed h n)
 findings_run h n m [] good count = record { well = ((refl, omega arith, omega arith), tt); ends = refl }
 findings_run h n m (f ∷ fs) good count =
-    run_more {p = Findings h n m} {e = finding f} (refl, omega arith, good.0) (findings_run h n (m + 1) fs good.1 (omega arith))
+    run_more {p = Findings h n m} {e = finding f} (refl, omega arith, All-head Filable f fs good) (findings_run h n (m + 1) fs (All-tail Filable f fs good) (omega arith))
 
 -- and so do rows before them
-rows_run : (h : Heading) (n t : ℕ) (rs : List Row) (fs : List Finding) → n + length rs ≡ t → length fs ≡ t → t ≤ most_rows → All (λ r. on_frame h.frame r ≡ true) rs → All Filable fs
+rows_run : (h : Heading) (n t : ℕ) (rs : List Row) (fs : List Finding) → n + length rs ≡ t → length fs ≡ t → t ≤ most_rows → AllPass (on_frame h.frame) rs → All Filable fs
     → Run (Rows h n) (map row rs ++ (map finding fs ++ end (1 + t + t) ∷ [])) (Closed h t)
 rows_run h n t [] [] total count few on good =
     record { well = ((refl, omega arith, omega arith), tt); ends = ap (Closed h) (omega arith) }
 rows_run h n t [] (f ∷ fs) total count few on good =
-    run_more {p = Rows h n} {e = finding f} (refl, omega arith, good.0)
-    (subst (λ x. Run (Findings h n 1) (map finding fs ++ end (1 + x + x) ∷ []) (Closed h x)) (let same : n ≡ t = omega arith in same) (findings_run h n 1 fs good.1 (omega arith)))
+    run_more {p = Rows h n} {e = finding f} (refl, omega arith, All-head Filable f fs good)
+    (subst (λ x. Run (Findings h n 1) (map finding fs ++ end (1 + x + x) ∷ []) (Closed h x)) (let same : n ≡ t = omega arith in same) (findings_run h n 1 fs (All-tail Filable f fs good) (omega arith)))
 rows_run h n t (r ∷ rs) fs total count few on good =
-    run_more {p = Rows h n} {e = row r} (refl, omega arith, on.0) (rows_run h (n + 1) t rs fs (omega arith) count few on.1 good)
+    run_more {p = Rows h n} {e = row r} (refl, omega arith, All-head (λ s. on_frame h.frame s ≡ true) r rs on) (rows_run h (n + 1) t rs fs (omega arith) count few (All-tail (λ s. on_frame h.frame s ≡ true) r rs on) good)
 
 -- the entries of lawful contents close a leaf
 pub lawful_run : (c : Contents) → Lawful c → Run Opening (entries c) (Closed c.heading (length c.rows))
@@ -79,20 +80,20 @@ findings_close h n m (row r ∷ es) g t order well ends = absurd (false≢true w
 findings_close h n m (finding f ∷ es) g t order well ends =
     let early = well.0.1 in
     let later = findings_close h n (m + 1) es g t (omega arith) well.1 ends in
-    record { filed = f ∷ later.filed; same = ap (λ xs. finding f ∷ xs) later.same; good = (well.0.2, later.good); count = omega (arith, later.count); head = later.head; total = later.total }
+    record { filed = f ∷ later.filed; same = ap (λ xs. finding f ∷ xs) later.same; good = All-cons Filable f later.filed well.0.2 later.good; count = omega (arith, later.count); head = later.head; total = later.total }
 findings_close h n m (end k ∷ es) g t order well ends =
     let late = well.0.1 in
     let none = none_after h n es well.1 in
     let closed : Closed h n ≡ Closed g t = sym (ap (after_all (Closed h n)) none) ∙ ends in
     let number : k ≡ 1 + n + n = omega (arith, well.0.2) in
-    record { filed = []; same = ap₂ (λ x xs. end x ∷ xs) number none; good = tt; count = omega arith; head = cc; total = cc }
+    record { filed = []; same = ap₂ (λ x xs. end x ∷ xs) number none; good = All-nil Filable; count = omega arith; head = cc; total = cc }
 
 -- in the rows, what closes it is rows, as many findings, and the end
 record ClosingRows (h : Heading) (n : ℕ) (es : List Entry) (g : Heading) (t : ℕ) : Type 0 where
   kept : List Row
   filed : List Finding
   same : es ≡ map row kept ++ (map finding filed ++ end (1 + t + t) ∷ [])
-  on : All (λ r. on_frame h.frame r ≡ true) kept
+  on : AllPass (on_frame h.frame) kept
   good : All Filable filed
   count : length filed ≡ t
   total : n + length kept ≡ t
@@ -109,7 +110,7 @@ rows_close h n (row r ∷ es) g t few well ends =
       kept = r ∷ later.kept;
       filed = later.filed;
       same = ap (λ xs. row r ∷ xs) later.same;
-      on = (well.0.2, later.on);
+      on = All-cons (λ s. on_frame h.frame s ≡ true) r later.kept well.0.2 later.on;
       good = later.good;
       count = later.count;
       total = omega (arith, later.total);
@@ -124,8 +125,8 @@ rows_close h n (finding f ∷ es) g t few well ends =
       kept = [];
       filed = f ∷ later.filed;
       same = ap (λ xs. finding f ∷ xs) (later.same ∙ ap (λ x. map finding later.filed ++ end (1 + x + x) ∷ []) total);
-      on = tt;
-      good = (well.0.2, later.good);
+      on = All-nil (λ s. on_frame h.frame s ≡ true);
+      good = All-cons Filable f later.filed well.0.2 later.good;
       count = omega (arith, later.count);
       total = omega arith;
       few = omega arith;
@@ -137,7 +138,7 @@ rows_close h n (end k ∷ es) g t few well ends =
     let closed : Closed h n ≡ Closed g t = sym (ap (after_all (Closed h n)) none) ∙ ends in
     let total : n ≡ t = cc in
     let number : k ≡ 1 + t + t = omega (arith, well.0.2) in
-    record { kept = []; filed = []; same = ap₂ (λ x xs. end x ∷ xs) number none; on = tt; good = tt; count = omega arith; total = omega arith; few = omega arith; head = cc }
+    record { kept = []; filed = []; same = ap₂ (λ x xs. end x ∷ xs) number none; on = All-nil (λ s. on_frame h.frame s ≡ true); good = All-nil Filable; count = omega arith; total = omega arith; few = omega arith; head = cc }
 
 -- entries that close a leaf are those of lawful contents
 pub record Closing (es : List Entry) (g : Heading) (t : ℕ) : Type 0 where
