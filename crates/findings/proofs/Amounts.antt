@@ -1,5 +1,5 @@
 -- The demand of rows that fit a frame: how large it is, and where it does not bend upward.
-use Rattle.std.proofs.Common.{◌≡◌, ℕ, suc, ◌+◌, ◌-◌, ◌*◌, ◌^◌, ◌<◌, ◌≤◌, true, false, cond, List, [], ◌∷◌, length, sum_by, refl, ap, ap₂, subst, arith}
+use Rattle.std.proofs.Common.{◌≡◌, ℕ, suc, ◌+◌, ◌-◌, ◌*◌, ◌^◌, ◌<◌, ◌≤◌, true, false, List, [], ◌∷◌, length, sum_by, refl, ap, ap₂, subst, arith}
 use Rattle.std.specs.List.{AllPass, list_any}
 use Rattle.std.proofs.lemmas.Nat.{mul-le}
 use Rattle.std.proofs.lemmas.List.Elements.{All-head, All-tail, All-weaker}
@@ -13,7 +13,7 @@ use Rattle.bounds.specs.Meaning.{Meaning, asked}
 use Rattle.bounds.specs.Answering.{amount_answered}
 use Rattle.bounds.proofs.Fitting.{largest, amount_small}
 use Rattle.findings.specs.Asking.{most_above}
-use Rattle.findings.specs.Demand.{Load, load, demand, rests}
+use Rattle.findings.specs.Demand.{Load, demand, rests}
 use Rattle.findings.specs.Points.{bend}
 use Rattle.findings.specs.Fitting.{Stands, OnceThenOn}
 use Rattle.findings.proofs.Turning.{on_from}

@@ -1,5 +1,5 @@
 -- The nearest test point, one row after the other.
-use Rattle.std.proofs.Common.{◌≡◌, ℕ, ◌+◌, ◌-◌, ◌<◌, ◌≤◌, min, Bool, true, false, cond, ◌&&◌, ◌||◌, eqb, ltb, List, [], ◌∷◌, fold, Some, None, Option, sym, refl, ap, ◌∙◌, subst, ⊎_elim, arith, MatchOption}
+use Rattle.std.proofs.Common.{◌≡◌, ℕ, ◌+◌, ◌-◌, ◌<◌, ◌≤◌, min, Bool, true, false, ◌&&◌, ◌||◌, eqb, ltb, List, [], ◌∷◌, fold, Some, None, Option, sym, refl, ◌∙◌, subst, ⊎_elim, arith, MatchOption}
 use Rattle.std.specs.List.{AllPass, list_any, cons_option, filter_map}
 use Rattle.std.proofs.lemmas.List.Elements.{All-head, All-tail}
 use Rattle.std.proofs.lemmas.Bool.{and_from, and_right, cases_lt, cond-true, eq-eqb, lt-ltb, ne_eqb, or_from, or_left, or_right}
@@ -68,15 +68,18 @@ module _ (m : Meaning) (h last after : ℕ) (frame : is_frame h ≡ true) (near 
     where
       answered : corner_answered m h r after ≡ least (m.corner r) (horizon - after) (after + 1)
       answered = cond-true _ _ _ (is_asked h r after frame (All-head (λ s. on_frame h s ≡ true) r rs on) (omega arith))
+
       spread : (a b x y : Bool) → ((a || (b && x)) || (b && y)) ≡ (a || (b && (x || y)))
       spread true b x y = refl
       spread false true x y = refl
       spread false false x y = refl
+
       with_row : (u : ℕ) → Leads rs (seen_more m last r seen) u → First (seen_more m last r seen) after last u → First (λ i. seen i || (ltb i last && (m.corner r i || list_any (λ s. m.corner s i) rs))) after last (nearest u rs)
       with_row u rest found =
           first_like _ _ after last (nearest u rs) (rest (All-tail (λ s. on_frame h s ≡ true) r rs on) found)
           (λ e. sym (spread (seen (nearest u rs)) (ltb (nearest u rs) last) (m.corner r (nearest u rs)) (list_any (λ s. m.corner s (nearest u rs)) rs)) ∙ e)
           (λ j low high e. sym (spread (seen j) (ltb j last) (m.corner r j) (list_any (λ s. m.corner s j) rs)) ∙ e)
+
       step : (o : Option ℕ) → ((u : ℕ) → Leads rs (seen_more m last r seen) u) → MatchOption o (First (seen_more m last r seen) after last t) (λ c. First (seen_more m last r seen) after last (min t c))
           → First (λ i. seen i || (ltb i last && (m.corner r i || list_any (λ s. m.corner s i) rs))) after last (fold min t (cons_option o (filter_map (λ s. corner_answered m h s after) rs)))
       step None rest found = with_row t (rest t) found

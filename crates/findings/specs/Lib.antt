@@ -4,4 +4,5 @@ pub mod Findings
 pub mod Tables
 pub mod Asking
 pub mod Fitting
+pub mod Loads
 pub mod Exact

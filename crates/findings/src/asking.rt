@@ -8,7 +8,7 @@ ghost use Rattle.findings.specs.Findings.{tells, row_finding, RowSays};
 ghost use Rattle.findings.specs.Exact.{response, Responds};
 ghost use Rattle.findings.specs.Fitting.{Fit};
 
-use crate::searching::search;
+use crate::loads::Load;
 use crate::verdicts::Finding;
 use bounds::{Bound, ExactSteps};
 use rows::{Fault, MOST_ROWS, Refusal, Row, is_frame};
@@ -50,7 +50,7 @@ pub fn find<B: Bound>(bound: &B, frame: u32, row: &Row, above: &[Row]) -> Result
     ensures says { IfOk result (λ f. RowSays (B.meaning bound.now) frame row.now above.now (tells f)) }
 {
     check(frame, row, above)?;
-    Ok(search(bound, frame, row.work, above, row.window()))
+    Ok(Load::new(bound, frame, row.work, above).search(row.window()))
 }
 
 // The response time of a row below others, in exact steps: none where it misses its deadline.
@@ -60,6 +60,6 @@ pub fn response_time(frame: u32, row: &Row, above: &[Row]) -> Result<Option<u64>
     ensures fixed { IfOk result (λ o. Responds row.now above.now o) }
 {
     check(frame, row, above)?;
-    let finding = search(&ExactSteps, frame, row.work, above, row.window());
+    let finding = Load::new(&ExactSteps, frame, row.work, above).search(row.window());
     Ok(finding.response_bound(row))
 }

@@ -1,56 +1,67 @@
-// The demand by a bound at an instant, and the next instant to test.
-ghost use Rattle.std.specs.Prelude.{◌≡◌, ◌^◌, ◌<◌, ◌≤◌, fold, min, sum_by};
-ghost use Rattle.std.specs.List.{filter_map};
+// The demand of a load at an instant, and the next instant to test.
+ghost use Rattle.std.specs.Prelude.{◌≡◌, ◌^◌, ◌<◌, ◌≤◌};
 ghost use Rattle.rows.specs.Times.{horizon};
-ghost use Rattle.bounds.specs.Answering.{amount_answered, corner_answered};
 ghost use Rattle.bounds.specs.Instants.{First};
 ghost use Rattle.findings.specs.Asking.{most_above};
 ghost use Rattle.findings.specs.Demand.{load, rests};
-ghost use Rattle.findings.specs.Points.{test_point};
+ghost use Rattle.findings.specs.Findings.{tested};
 ghost use Rattle.findings.specs.Fitting.{Fit};
+ghost use Rattle.findings.specs.Loads.{amounts_answered, load_of, nearest_answered};
 
+use crate::loads::Load;
 use bounds::Bound;
 use rows::Row;
 
-// The sum of what the bound answers about the rows, in parts.
-fn amounts<B: Bound>(bound: &B, frame: u32, rows: &[Row], at: u32) -> u64
-    requires { sum_by (λ r. amount_answered (B.meaning bound.now) frame r at) rows.now < 2 ^ 64 }
-    ensures { result ≡ sum_by (λ r. amount_answered (B.meaning bound.now) frame r at) rows.now }
-{
-    rows.iter().map(|row| bound.amount(frame, row, at)).sum()
-}
+impl<'a, B: Bound> Load<'a, B> {
+    // The load of some own work below rows that passed their checks.
+    pub(crate) fn new(bound: &'a B, frame: u32, own: u32, above: &'a [Row]) -> Load<'a, B>
+        requires { Fit most_above frame above.now }
+        ensures { load_of result ≡ load (B.meaning bound.now) frame own above.now }
+    {
+        Load {
+            bound,
+            frame,
+            own,
+            above,
+        }
+    }
 
-// The least of `last` and the next corners that the bound answers about the rows.
-fn nearest<B: Bound>(bound: &B, frame: u32, rows: &[Row], after: u32, last: u32) -> u32
-    ensures { result ≡ fold min last (filter_map (λ r. corner_answered (B.meaning bound.now) frame r after) rows.now) }
-{
-    rows.iter()
-        .filter_map(|row| bound.next_corner(frame, row, after))
-        .fold(last, |next, corner| next.min(corner))
-}
+    // The sum of what the bound answers about the rows above, in parts.
+    fn amounts(&self, at: u32) -> u64
+        requires { amounts_answered (load_of self.now) at < 2 ^ 64 }
+        ensures { result ≡ amounts_answered (load_of self.now) at }
+    {
+        self.above
+            .iter()
+            .map(|row| self.bound.amount(self.frame, row, at))
+            .sum()
+    }
 
-// Whether all that is demanded up to the instant is served by it.
-pub(crate) fn is_rest<B: Bound>(bound: &B, frame: u32, own: u32, above: &[Row], at: u32) -> bool
-    requires fit { Fit most_above frame above.now }
-    requires near { at ≤ horizon }
-    ensures { result ≡ rests (load (B.meaning bound.now) frame own above.now) at }
-{
-    let demand = u64::from(frame) * u64::from(own) + amounts(bound, frame, above, at);
-    demand <= u64::from(frame) * u64::from(at)
-}
+    // The least of `last` and the next corners that the bound answers about the rows above.
+    fn nearest(&self, after: u32, last: u32) -> u32
+        ensures { result ≡ nearest_answered (load_of self.now) after last }
+    {
+        self.above
+            .iter()
+            .filter_map(|row| self.bound.next_corner(self.frame, row, after))
+            .fold(last, |next, corner| next.min(corner))
+    }
 
-// The first test point after the instant, for a row that may rest up to `last`.
-pub(crate) fn next_point<B: Bound>(
-    bound: &B,
-    frame: u32,
-    above: &[Row],
-    after: u32,
-    last: u32,
-) -> u32
-    requires fit { Fit most_above frame above.now }
-    requires before { after < last }
-    requires near { last ≤ horizon }
-    ensures { First (test_point (B.meaning bound.now) above.now last) after last result }
-{
-    nearest(bound, frame, above, after, last)
+    // Whether all that is demanded up to the instant is served by it.
+    pub(crate) fn rests(&self, at: u32) -> bool
+        requires { at ≤ horizon }
+        ensures { result ≡ rests (load_of self.now) at }
+    {
+        let demand = u64::from(self.frame) * u64::from(self.own) + self.amounts(at);
+        demand <= u64::from(self.frame) * u64::from(at)
+    }
+
+    // The first test point after the instant, for a row that may rest up to `last`.
+    pub(crate) fn next_point(&self, after: u32, last: u32) -> u32
+        requires before { after < last }
+        requires near { last ≤ horizon }
+        ensures { First (tested (load_of self.now) last) after last result }
+    {
+        self.nearest(after, last)
+    }
 }

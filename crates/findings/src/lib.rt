@@ -3,6 +3,7 @@
 
 mod asking;
 mod demands;
+mod loads;
 mod recounting;
 mod searching;
 mod verdicts;

@@ -9,7 +9,7 @@ ghost use Rattle.findings.specs.Tables.{findings_of, TableSays};
 ghost use Rattle.findings.specs.Fitting.{Fit, Sized};
 
 use crate::asking::standing;
-use crate::searching::search;
+use crate::loads::Load;
 use crate::verdicts::Finding;
 use bounds::Bound;
 use rows::{Fault, MOST_ROWS, Refusal, Row, is_frame};
@@ -54,7 +54,7 @@ fn fill<B: Bound>(bound: &B, frame: u32, rows: &[Row], from: usize, list: &mut [
 {
     for i in from..rows.len() {
         let row = &rows[i];
-        list[i] = search(bound, frame, row.work, &rows[0..i], row.window());
+        list[i] = Load::new(bound, frame, row.work, &rows[0..i]).search(row.window());
     }
 }
 

@@ -1,6 +1,6 @@
 use Rattle.std.proofs.Common.{◌≡◌, ◌-◌, ◌<◌, [], map, length, drop, set, refl, ap, ◌∙◌, arith}
 use Rattle.std.proofs.lemmas.List.{length-drop, length-map, map-set}
-use Rattle.findings.specs.Findings.{tells}
+use Rattle.findings.specs.Findings.{tells, finding}
 use Rattle.findings.specs.Tables.{findings_of}
 use Rattle.findings.proofs.Tables.{length_findings_below, rows_above_fit, counted_at, put_none, put_more, put_all, stays_more, outside_end}
 use Rattle.findings.proofs.recounting.fill.Goals as goal
@@ -8,13 +8,11 @@ use Rattle.findings.proofs.recounting.fill.Goals as goal
 pub loop-i-init : goal.loop-i-init
 loop-i-init g c = (omega arith, put_none _ _ c.args.from, λ k d outside. refl)
 
+pub new-requires : goal.new-requires
+new-requires g c = rows_above_fit c.args.frame c.args.rows.now _ c.requires.fit (omega (arith, c.loop-i.auto.i, c.loop-i-test.true))
+
 pub search-requires : goal.search-requires
-search-requires g c = record {
-  fit = rows_above_fit c.args.frame c.args.rows.now _ c.requires.fit (omega (arith, c.loop-i.auto.i, c.loop-i-test.true));
-  busy = omega arith;
-  some = omega (arith, c.window.ensures);
-  near = omega (arith, c.window.ensures);
-}
+search-requires g c = record { busy = omega (arith, ap (λ l. l.own) c.new.ensures); some = omega (arith, c.window.ensures); near = omega (arith, c.window.ensures) }
 
 pub loop-i-preserved : goal.loop-i-preserved
 loop-i-preserved g c =
@@ -24,7 +22,7 @@ loop-i-preserved g c =
     let new = drop from (findings_of m c.args.frame c.args.rows.now) in
     let i = c.loop-i.i in
     let left : i - from < length new = omega (arith, length-drop from (findings_of m c.args.frame c.args.rows.now), length_findings_below m c.args.frame [] c.args.rows.now, c.loop-i-test.true) in
-    let found = counted_at m c.args.frame c.args.rows.now from i c.index-rows-i.result (tells c.search.result) c.window.result c.loop-i.auto.i c.loop-i-test.true c.index-rows-i.is c.window.ensures c.search.ensures.found in (
+    let found = counted_at m c.args.frame c.args.rows.now from i c.index-rows-i.result (tells c.search.result) c.window.result c.loop-i.auto.i c.loop-i-test.true c.index-rows-i.is c.window.ensures (c.search.ensures.found ∙ ap (λ l. finding l c.window.result) c.new.ensures) in (
       omega (arith, c.loop-i-test.true),
       map-set tells c.loop-i.list i c.search.result ∙ ap (λ l. set l i (tells c.search.result)) c.loop-i.invariant.1
           ∙ put_more old new from i (tells c.search.result) c.loop-i.auto.i (omega (arith, length-map c.args.list.now tells, c.requires.room, c.loop-i-test.true)) left found,
