@@ -27,7 +27,7 @@ module _ (m : Meaning) (h : ℕ) where
 
   -- the finding at a place is that of the row there, below the rows before it
   finding_below_at : (above rows : List Row) (i : ℕ) (d : Found) (r : Row) → i < length rows → get_or (findings_below m h above rows) i d ≡ row_finding m h (get_or rows i r) (above ++ take i rows)
-  finding_below_at above [] i d r within = absurd (let z : ⊥ = omega arith in z)
+  finding_below_at above [] i d r within = absurd (omega arith)
   finding_below_at above (s ∷ rows) zero d r within = ap (row_finding m h s) (sym (append-nil above))
   finding_below_at above (s ∷ rows) (suc i) d r within =
       finding_below_at (above ++ s ∷ []) rows i d r (omega arith) ∙ ap (row_finding m h (get_or rows i r)) (append_assoc above (s ∷ []) (take i rows))

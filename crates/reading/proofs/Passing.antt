@@ -96,10 +96,10 @@ row_from n h at x y passes =
 
 -- an entry in the fields of any kind but R is there
 other_some : (a b c : Bool) (x y z : Entry) (o : Option Entry) → (b ≡ true → ⊥) → None ≡ cond a (Some x) (cond b o (cond c (Some y) (Some z))) → ⊥
-other_some true b c x y z o other none = let w : ◌≡◌ {A = ℕ} 0 1 = cc in omega arith
+other_some true b c x y z o other none = cc
 other_some false true c x y z o other none = other refl
-other_some false false true x y z o other none = let w : ◌≡◌ {A = ℕ} 0 1 = cc in omega arith
-other_some false false false x y z o other none = let w : ◌≡◌ {A = ℕ} 0 1 = cc in omega arith
+other_some false false true x y z o other none = cc
+other_some false false false x y z o other none = cc
 
 -- with a byte left, reading does not end
 more_comes : (p : Phase) (k at : ℕ) (xs : List ℕ) → gives None ≡ next_answer p at (k ∷ xs) → ⊥
@@ -116,7 +116,7 @@ more_comes p k at xs ended =
     let found = row_from (numbers_in bytes) (frame_in p) at None (row_in bytes) judged in
     let some : row_in bytes ≡ Some (row found.0) = ap (λ n. option_map row (row_of n)) (sym found.1) ∙ ap (option_map row) (row_of_plain found.0) in
     let again = given_is (flaw_checks (frame_flaws (frame_in p)) (numbers_in bytes) at) None (row_in bytes) judged in
-    let w : ◌≡◌ {A = ℕ} 0 1 = cc in omega arith) none
+    cc) none
 
 -- where reading ends, the leaf is closed, and no byte is left
 pub record AtEnd (p : Phase) (rest : List ℕ) : Type 0 where
@@ -126,9 +126,9 @@ pub record AtEnd (p : Phase) (rest : List ℕ) : Type 0 where
   pub none : rest ≡ []
 
 pub at_end : (p : Phase) (rest : List ℕ) (at : ℕ) → gives None ≡ next_answer p at rest → AtEnd p rest
-at_end Opening [] at ended = absurd (let w : ◌≡◌ {A = ℕ} 0 1 = cc in omega arith)
-at_end (Rows h n) [] at ended = absurd (let w : ◌≡◌ {A = ℕ} 0 1 = cc in omega arith)
-at_end (Findings h n m) [] at ended = absurd (let w : ◌≡◌ {A = ℕ} 0 1 = cc in omega arith)
+at_end Opening [] at ended = cc
+at_end (Rows h n) [] at ended = cc
+at_end (Findings h n m) [] at ended = cc
 at_end (Closed h n) [] at ended = record { head = h; total = n; closed = refl; none = refl }
 at_end p (k ∷ xs) at ended = absurd (more_comes p k at xs ended)
 

@@ -15,7 +15,7 @@ use Rattle.reading.specs.Stepping.{entry_checks, next_answer, moved, read_bytes,
 
 -- bytes with a first one are that one and the others
 pub begins : (bytes : List ℕ) (k : ℕ) → Some k ≡ first_of bytes → bytes ≡ k ∷ drop 1 bytes
-begins [] k starts = absurd (let z : ◌≡◌ {A = ℕ} 0 1 = cc in omega arith)
+begins [] k starts = cc
 begins (b ∷ bytes) k starts = let same : b ≡ k = cc in ap (λ x. x ∷ bytes) same
 
 -- a phase that takes some kind is not closed
@@ -23,7 +23,7 @@ pub opened : (p : Phase) (k at : ℕ) (bytes : List ℕ) → takes p k ≡ true 
 opened Opening k at bytes turn = refl
 opened (Rows h n) k at bytes turn = refl
 opened (Findings h n m) k at bytes turn = refl
-opened (Closed h n) k at bytes turn = absurd (let z : ◌≡◌ {A = ℕ} 0 1 = cc in omega arith)
+opened (Closed h n) k at bytes turn = cc
 
 module _ (p : Phase) (at : ℕ) (bytes : List ℕ) where
   pub turn_F : takes p 70 ≡ true → Some 70 ≡ first_of bytes → next_answer p at bytes

@@ -74,7 +74,7 @@ record ClosingFindings (h : Heading) (n m : ℕ) (es : List Entry) (g : Heading)
   total : n ≡ t
 
 findings_close : (h : Heading) (n m : ℕ) (es : List Entry) (g : Heading) (t : ℕ) → m ≤ n → WellFormed (Findings h n m) es → after_all (Findings h n m) es ≡ Closed g t → ClosingFindings h n m es g t
-findings_close h n m [] g t order well ends = absurd (let z : ◌≡◌ {A = ℕ} 0 1 = cc in omega arith)
+findings_close h n m [] g t order well ends = cc
 findings_close h n m (heading x ∷ es) g t order well ends = absurd (false≢true well.0.0)
 findings_close h n m (row r ∷ es) g t order well ends = absurd (false≢true well.0.0)
 findings_close h n m (finding f ∷ es) g t order well ends =
@@ -101,7 +101,7 @@ record ClosingRows (h : Heading) (n : ℕ) (es : List Entry) (g : Heading) (t : 
   head : h ≡ g
 
 rows_close : (h : Heading) (n : ℕ) (es : List Entry) (g : Heading) (t : ℕ) → n ≤ most_rows → WellFormed (Rows h n) es → after_all (Rows h n) es ≡ Closed g t → ClosingRows h n es g t
-rows_close h n [] g t few well ends = absurd (let z : ◌≡◌ {A = ℕ} 0 1 = cc in omega arith)
+rows_close h n [] g t few well ends = cc
 rows_close h n (heading x ∷ es) g t few well ends = absurd (false≢true well.0.0)
 rows_close h n (row r ∷ es) g t few well ends =
     let room = well.0.1 in
@@ -149,7 +149,7 @@ pub record Closing (es : List Entry) (g : Heading) (t : ℕ) : Type 0 where
   pub total : length contents.rows ≡ t
 
 pub closing : (es : List Entry) (g : Heading) (t : ℕ) → WellFormed Opening es → after_all Opening es ≡ Closed g t → Closing es g t
-closing [] g t well ends = absurd (let z : ◌≡◌ {A = ℕ} 0 1 = cc in omega arith)
+closing [] g t well ends = cc
 closing (row r ∷ es) g t well ends = absurd (false≢true well.0.0)
 closing (finding f ∷ es) g t well ends = absurd (false≢true well.0.0)
 closing (end k ∷ es) g t well ends = absurd (false≢true well.0.0)
@@ -168,8 +168,8 @@ closing (heading h ∷ es) g t well ends =
 -- contents are known by their entries
 same_findings : (fs gs : List Finding) (k l : ℕ) → map finding fs ++ end k ∷ [] ≡ map finding gs ++ end l ∷ [] → fs ≡ gs
 same_findings [] [] k l same = refl
-same_findings [] (g ∷ gs) k l same = absurd (let z : ◌≡◌ {A = ℕ} 0 1 = cc in omega arith)
-same_findings (f ∷ fs) [] k l same = absurd (let z : ◌≡◌ {A = ℕ} 0 1 = cc in omega arith)
+same_findings [] (g ∷ gs) k l same = cc
+same_findings (f ∷ fs) [] k l same = cc
 same_findings (f ∷ fs) (g ∷ gs) k l same =
     let one : f ≡ g = cc in
     let rest : map finding fs ++ end k ∷ [] ≡ map finding gs ++ end l ∷ [] = cc in
@@ -177,10 +177,10 @@ same_findings (f ∷ fs) (g ∷ gs) k l same =
 
 same_rows : (rs ss : List Row) (fs gs : List Finding) (k l : ℕ) → map row rs ++ (map finding fs ++ end k ∷ []) ≡ map row ss ++ (map finding gs ++ end l ∷ []) → (rs ≡ ss) × (fs ≡ gs)
 same_rows [] [] fs gs k l same = (refl, same_findings fs gs k l same)
-same_rows [] (s ∷ ss) [] gs k l same = absurd (let z : ◌≡◌ {A = ℕ} 0 1 = cc in omega arith)
-same_rows [] (s ∷ ss) (f ∷ fs) gs k l same = absurd (let z : ◌≡◌ {A = ℕ} 0 1 = cc in omega arith)
-same_rows (r ∷ rs) [] fs [] k l same = absurd (let z : ◌≡◌ {A = ℕ} 0 1 = cc in omega arith)
-same_rows (r ∷ rs) [] fs (g ∷ gs) k l same = absurd (let z : ◌≡◌ {A = ℕ} 0 1 = cc in omega arith)
+same_rows [] (s ∷ ss) [] gs k l same = cc
+same_rows [] (s ∷ ss) (f ∷ fs) gs k l same = cc
+same_rows (r ∷ rs) [] fs [] k l same = cc
+same_rows (r ∷ rs) [] fs (g ∷ gs) k l same = cc
 same_rows (r ∷ rs) (s ∷ ss) fs gs k l same =
     let one : r ≡ s = cc in
     let rest : map row rs ++ (map finding fs ++ end k ∷ []) ≡ map row ss ++ (map finding gs ++ end l ∷ []) = cc in
@@ -196,13 +196,13 @@ same_contents c d same =
 
 -- after a leaf nothing comes
 closed_stuck : (p : Phase) (h : Heading) (n at : ℕ) → p ≡ Closed h n → Stuck p at []
-closed_stuck p h n at closed = subst (λ q. Stuck q at []) (sym closed) (λ e some. let z : ◌≡◌ {A = ℕ} 0 1 = cc in omega arith)
+closed_stuck p h n at closed = subst (λ q. Stuck q at []) (sym closed) (λ e some. cc)
 
 -- where a check refuses, nothing comes
 refused_stuck : {bytes : List ℕ} {n place : ℕ} (r : RefusedAt bytes n place) → Stuck (after_all Opening r.before) (length (bytes_of r.before)) r.rest
 refused_stuck {n = n} {place = place} r e some =
     let both = sym r.fails ∙ some in
-    let z : ◌≡◌ {A = ℕ} 0 1 = cc in omega arith
+    cc
 
 -- the entries of contents that fit, beside others
 module _ (bytes : List ℕ) (c : Contents) (fits : Fits bytes (gives c)) (es : List Entry) (rest : List ℕ) (split : bytes ≡ bytes_of es ++ rest) (well : WellFormed Opening es) (stuck : Stuck (after_all Opening es) (length (bytes_of es)) rest) where
@@ -220,7 +220,7 @@ leaf_not_refused bytes c n at fits refused =
     let closed = ap (after_all Opening) (sym both.0) ∙ (lawful_run c fits.0).ends in
     let none = ap₂ (λ p rest. next_answer p (length (bytes_of refused.before)) rest) closed (sym both.1) in
     let fails = refused.fails in
-    let z : ◌≡◌ {A = ℕ} 0 1 = cc in omega arith
+    cc
 
 -- at most one answer fits
 pub fits_once : FitsOnce

@@ -6,7 +6,7 @@ use Rattle.rows.specs.Answers.{Answer, answer, gives, refuses, Check, checked}
 
 -- where a value is given, the first check found nothing wrong, and the others give it
 pub first_passes : {A : Type 0} (wrong : Bool) (refusal at : ℕ) (x : A) (rest : Answer A) → gives x ≡ cond wrong (refuses refusal at) rest → (wrong ≡ false) × (gives x ≡ rest)
-first_passes true refusal at x rest given = absurd (let z : ◌≡◌ {A = ℕ} 0 1 = cc in omega arith)
+first_passes true refusal at x rest given = cc
 first_passes false refusal at x rest given = (refl, given)
 
 -- where a value is given, it is the one that was to be given
@@ -21,7 +21,7 @@ made_is (Err e) f cs y refused = tt
 
 -- what the first checks refuse is refused with more checks after them
 pub refused_first : {A B : Type 0} (cs ds : List Check) (n at : ℕ) (y : A) → refuses n at ≡ checked cs y → (z : B) → refuses n at ≡ checked (cs ++ ds) z
-refused_first [] ds n at y refused z = absurd (let w : ◌≡◌ {A = ℕ} 0 1 = cc in omega arith)
+refused_first [] ds n at y refused z = cc
 refused_first (c ∷ cs) ds n at y refused z = by c.wrong refused (λ more. refused_first cs ds n at y more z)
   where
     by : (b : Bool) → refuses n at ≡ cond b (refuses c.refusal c.at) (checked cs y) → (refuses n at ≡ checked cs y → refuses n at ≡ checked (cs ++ ds) z) → refuses n at ≡ cond b (refuses c.refusal c.at) (checked (cs ++ ds) z)
@@ -49,4 +49,4 @@ refuses_any cs n at y refused z = refused_first cs [] n at y refused z ∙ ap (�
 
 -- no question is both answered and refused
 pub answered_once : {A B : Type 0} (cs : List Check) (x y : A) (n at : ℕ) (z : B) → gives x ≡ checked cs y → refuses n at ≡ checked cs z → ⊥
-answered_once cs x y n at z given refused = let same = gives_any cs x y given z in let w : ◌≡◌ {A = ℕ} 0 1 = cc in omega arith
+answered_once cs x y n at z given refused = let same = gives_any cs x y given z in cc

@@ -26,8 +26,8 @@ same_row r s same =
 -- and so it is with lists of rows
 pub same_rows : (rs ss : List Row) → map plain rs ≡ map plain ss → rs ≡ ss
 same_rows [] [] same = refl
-same_rows [] (s ∷ ss) same = let z : ◌≡◌ {A = ℕ} 0 1 = cc in absurd (let w : ⊥ = omega arith in w)
-same_rows (r ∷ rs) [] same = let z : ◌≡◌ {A = ℕ} 0 1 = cc in absurd (let w : ⊥ = omega arith in w)
+same_rows [] (s ∷ ss) same = cc
+same_rows (r ∷ rs) [] same = cc
 same_rows (r ∷ rs) (s ∷ ss) same =
     let first : plain r ≡ plain s = cc in
     let rest : map plain rs ≡ map plain ss = cc in

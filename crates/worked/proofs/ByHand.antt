@@ -13,11 +13,11 @@ agree p q zero = true
 agree p q (suc n) = cond (p n) (q n) (not (q n)) && agree p q n
 
 agrees : (p q : ℕ → Bool) (n t : ℕ) → agree p q n ≡ true → t < n → p t ≡ q t
-agrees p q zero t all below = absurd (let z : ⊥ = omega arith in z)
+agrees p q zero t all below = absurd (omega arith)
 agrees p q (suc n) t all below =
     let parts = and_parts (cond (p n) (q n) (not (q n))) (agree p q n) all in
     ⊎_elim (λ (last : t ≡ n). subst (λ k. p k ≡ q k) (sym last) (same (p n) (q n) parts.0))
-    (λ o. agrees p q n t parts.1 (⊎_elim (λ l. l) (λ l. absurd (let z : ⊥ = omega arith in z)) o))
+    (λ o. agrees p q n t parts.1 (⊎_elim (λ l. l) (λ l. absurd (omega arith)) o))
     (cases_order t n)
   where
     same : (a b : Bool) → cond a b (not b) ≡ true → a ≡ b

@@ -18,7 +18,7 @@ module _ (p : ℕ → Bool) where
   -- what holds at s and from the next instant on
   from_next : (s i : ℕ) → p s ≡ false → (suc s ≤ i → p i ≡ false) → s ≤ i → p i ≡ false
   from_next s i here rest low =
-      ⊎_elim (λ (e : s ≡ i). subst (λ j. p j ≡ false) e here) (λ o. rest (⊎_elim (λ l. l) (λ l. absurd (let z : ⊥ = omega arith in z)) o)) (cases_order s i)
+      ⊎_elim (λ (e : s ≡ i). subst (λ j. p j ≡ false) e here) (λ o. rest (⊎_elim (λ l. l) (λ l. absurd (omega arith)) o)) (cases_order s i)
 
   -- where s has not p, what the later instants tell
   later : (n s : ℕ) (o : Option ℕ) → p s ≡ false → MatchOption o (NoneOf n (suc s)) (FirstOf n (suc s)) → MatchOption o (NoneOf (suc n) s) (FirstOf (suc n) s)
@@ -26,12 +26,12 @@ module _ (p : ℕ → Bool) where
   later n s (Some t) here f = (omega arith, omega arith, f.2, λ i low high. from_next s i here (λ l. f.3 i l high) low)
 
   step : (n s : ℕ) (b : Bool) → p s ≡ b → MatchOption (least p n (suc s)) (NoneOf n (suc s)) (FirstOf n (suc s)) → MatchOption (cond b (Some s) (least p n (suc s))) (NoneOf (suc n) s) (FirstOf (suc n) s)
-  step n s true here tells = (omega arith, omega arith, here, λ i low high. absurd (let z : ⊥ = omega arith in z))
+  step n s true here tells = (omega arith, omega arith, here, λ i low high. absurd (omega arith))
   step n s false here tells = later n s (least p n (suc s)) here tells
 
   least_tells : (n s : ℕ) → MatchOption (least p n s) (NoneOf n s) (FirstOf n s)
   unfolding least
-  least_tells zero s = λ i low high. absurd (let z : ⊥ = omega arith in z)
+  least_tells zero s = λ i low high. absurd (omega arith)
   least_tells (suc n) s = step n s (p s) refl (least_tells n (suc s))
 
   -- two first instants are one

@@ -24,7 +24,7 @@ share h r = r.work * (h / r.period)
 
 -- the line is straight
 line_straight : (h : ℕ) (r : Row) (t : ℕ) → 1 ≤ t → line h r (t - 1) + line h r (t + 1) ≡ 2 * line h r t
-line_straight h r zero late = absurd (let z : ⊥ = omega arith in z)
+line_straight h r zero late = absurd (omega arith)
 line_straight h r (suc t) _ = let e : suc t - 1 ≡ t = omega arith in rw e (omega arith)
 
 module _ (h : ℕ) (r : Row) (t : ℕ) (whole : h / r.period * r.period ≡ h) where
