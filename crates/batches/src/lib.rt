@@ -35,7 +35,8 @@ impl Batches {
     // The bound of an accuracy from 1 to 64 and a batch size from 1 to the horizon; refused with
     // bad accuracy otherwise.
     pub fn new(accuracy: u32, size: u32) -> Result<Batches, Fault>
-        ensures { answer (λ b. parameters b.accuracy b.size) result ≡ checked (batch_checks accuracy size) (parameters accuracy size) }
+        ensures { answer (λ b. parameters b.accuracy b.size) result
+            ≡ checked (batch_checks accuracy size) (parameters accuracy size) }
     {
         if accuracy == 0 || accuracy > FINEST {
             return Err(Refusal::BadAccuracy.at(0));

@@ -20,7 +20,8 @@ pub struct LinearTail {
 impl LinearTail {
     // The linear tail of accuracy k; refused with bad accuracy outside 1 to 64.
     pub fn new(accuracy: u32) -> Result<LinearTail, Fault>
-        ensures made { answer (λ tail. tail.accuracy) result ≡ checked (check (not (is_accuracy accuracy)) 3 0 ∷ []) accuracy }
+        ensures made { answer (λ tail. tail.accuracy) result
+            ≡ checked (check (not (is_accuracy accuracy)) 3 0 ∷ []) accuracy }
         ensures rising { Rising }
     {
         if accuracy == 0 || accuracy > FINEST {

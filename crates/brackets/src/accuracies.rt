@@ -13,7 +13,9 @@ use rows::{Fault, Row};
 
 // The least accuracy of a linear tail by which the row meets, if there is one.
 pub fn least_accuracy(frame: u32, row: &Row, above: &[Row]) -> Result<Option<u32>, Fault>
-    ensures least { answer (λ o. o) result ≡ checked (checks frame row.now above.now) (least (meets_by frame row.now above.now) finest 1) }
+    ensures least { answer (λ o. o) result
+        ≡ checked (checks frame row.now above.now)
+        (least (meets_by frame row.now above.now) finest 1) }
     ensures from { IfOk result (λ o. MeetsFrom frame row.now above.now o) }
     ensures finer { FinerTails }
 {

@@ -37,9 +37,12 @@ pub fn count_both<B: Bound>(
     row: &Row,
     above: &[Row],
 ) -> Result<Counts, Fault>
-    ensures counted { answer both result ≡ checked (checks frame row.now above.now) (row_counted (B.meaning bound.now) frame row.now above.now) }
+    ensures counted { answer both result
+        ≡ checked (checks frame row.now above.now)
+        (row_counted (B.meaning bound.now) frame row.now above.now) }
     ensures exactly { IfOk result (λ c. told c.exact.verdict ≡ exact_rest row.now above.now) }
-    ensures between { IfOk result (λ c. Between (B.meaning bound.now).accuracy row.now above.now (told c.bounded.verdict)) }
+    ensures between { IfOk result
+        (λ c. Between (B.meaning bound.now).accuracy row.now above.now (told c.bounded.verdict)) }
     ensures brackets { Brackets (B.meaning bound.now) }
     ensures fewer { FewerAbove (B.meaning bound.now) }
     ensures order { AnyOrder (B.meaning bound.now) }

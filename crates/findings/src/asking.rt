@@ -46,7 +46,9 @@ fn check(frame: u32, row: &Row, above: &[Row]) -> Result<(), Fault>
 
 // The finding about a row below others, by a bound.
 pub fn find<B: Bound>(bound: &B, frame: u32, row: &Row, above: &[Row]) -> Result<Finding, Fault>
-    ensures found { answer tells result ≡ checked (checks frame row.now above.now) (row_finding (B.meaning bound.now) frame row.now above.now) }
+    ensures found { answer tells result
+        ≡ checked (checks frame row.now above.now)
+        (row_finding (B.meaning bound.now) frame row.now above.now) }
     ensures says { IfOk result (λ f. RowSays (B.meaning bound.now) frame row.now above.now (tells f)) }
 {
     check(frame, row, above)?;
@@ -55,8 +57,10 @@ pub fn find<B: Bound>(bound: &B, frame: u32, row: &Row, above: &[Row]) -> Result
 
 // The response time of a row below others, in exact steps: none where it misses its deadline.
 pub fn response_time(frame: u32, row: &Row, above: &[Row]) -> Result<Option<u64>, Fault>
-    ensures responds { answer (λ o. o) result ≡ checked (checks frame row.now above.now) (response row.now above.now) }
-    ensures first { IfOk result (λ o. o ≡ option_map (λ t. t + row.now.jitter) (row_finding exact_steps frame row.now above.now).rest) }
+    ensures responds { answer (λ o. o) result
+        ≡ checked (checks frame row.now above.now) (response row.now above.now) }
+    ensures first { IfOk result (λ o. o ≡ option_map (λ t. t + row.now.jitter)
+        (row_finding exact_steps frame row.now above.now).rest) }
     ensures fixed { IfOk result (λ o. Responds row.now above.now o) }
 {
     check(frame, row, above)?;

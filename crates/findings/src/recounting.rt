@@ -49,7 +49,9 @@ fn check_table(frame: u32, rows: &[Row], places: usize) -> Result<(), Fault>
 fn fill<B: Bound>(bound: &B, frame: u32, rows: &[Row], from: usize, list: &mut [Finding])
     requires fit { Fit most_rows frame rows.now }
     requires room { length rows.now ≤ length list.old }
-    ensures filled { map tells list.new ≡ written (map tells list.old) from (drop from (findings_of (B.meaning bound.now) frame rows.now)) }
+    ensures filled { map tells list.new
+        ≡ written (map tells list.old) from
+        (drop from (findings_of (B.meaning bound.now) frame rows.now)) }
     ensures stay { StaysOutside from (length rows.now) list.old list.new }
 {
     for i in from..rows.len() {
@@ -68,7 +70,10 @@ pub fn recount<B: Bound>(
     list: &mut [Finding],
 ) -> Result<(), Fault>
     ensures answered { answer (λ u. u) result ≡ checked (table_checks frame rows.now (length list.old)) tt }
-    ensures filled { MatchResult result (λ _. map tells list.new ≡ written (map tells list.old) from (drop from (findings_of (B.meaning bound.now) frame rows.now))) (λ _. list.new ≡ list.old) }
+    ensures filled { MatchResult result (λ _. map tells list.new
+        ≡ written (map tells list.old) from
+        (drop from (findings_of (B.meaning bound.now) frame rows.now)))
+        (λ _. list.new ≡ list.old) }
     ensures stay { StaysOutside from (length rows.now) list.old list.new }
     ensures says { OnOk result (TableSays (B.meaning bound.now) frame rows.now) }
 {

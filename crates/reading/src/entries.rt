@@ -53,7 +53,8 @@ pub(crate) fn row_entry(bytes: &[u8], at: u32, frame: u32, rows: u8) -> Result<R
 // The finding about one of so many rows, after so many other findings.
 pub(crate) fn finding_entry(bytes: &[u8], at: u32, rows: u8, findings: u8) -> Result<Finding, Fault>
     requires { at ≤ horizon }
-    ensures judged { answer (λ f. f) result ≡ checked (A_checks rows findings at bytes.now) (finding_in bytes.now) }
+    ensures judged { answer (λ f. f) result
+        ≡ checked (A_checks rows findings at bytes.now) (finding_in bytes.now) }
     ensures room { OnOk result (9 ≤ length bytes.now) }
     ensures same { IfOk result (λ f. drop 1 bytes.now ≡ finding_body f ++ drop 9 bytes.now) }
 {
@@ -67,7 +68,8 @@ pub(crate) fn finding_entry(bytes: &[u8], at: u32, rows: u8, findings: u8) -> Re
 // The end, after so many rows and findings.
 pub(crate) fn end_entry(bytes: &[u8], at: u32, rows: u8, findings: u8) -> Result<u32, Fault>
     requires { at ≤ horizon }
-    ensures judged { answer (λ n. n) result ≡ checked (Z_checks rows findings at bytes.now) (number_at 1 bytes.now) }
+    ensures judged { answer (λ n. n) result
+        ≡ checked (Z_checks rows findings at bytes.now) (number_at 1 bytes.now) }
     ensures room { OnOk result (5 ≤ length bytes.now) }
     ensures same { IfOk result (λ n. drop 1 bytes.now ≡ four n ++ drop 5 bytes.now) }
 {

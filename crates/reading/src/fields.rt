@@ -23,7 +23,8 @@ pub(crate) fn number_at(bytes: &[u8], at: usize) -> u32
 // The heading in an entry of seven bytes or more.
 pub(crate) fn heading_in(bytes: &[u8], at: u32) -> Result<Heading, Fault>
     requires { 7 ≤ length bytes.now }
-    ensures judged { answer (λ h. h) result ≡ checked (heading_checks (heading_in bytes.now) at) (heading_in bytes.now) }
+    ensures judged { answer (λ h. h) result
+        ≡ checked (heading_checks (heading_in bytes.now) at) (heading_in bytes.now) }
     ensures same { IfOk result (λ h. drop 1 bytes.now ≡ heading_body h ++ drop 7 bytes.now) }
 {
     let heading = Heading {
@@ -38,7 +39,9 @@ pub(crate) fn heading_in(bytes: &[u8], at: u32) -> Result<Heading, Fault>
 // The row in an entry of seventeen bytes or more, on a frame.
 pub(crate) fn row_in(bytes: &[u8], frame: u32, at: u32) -> Result<Row, Fault>
     requires { 17 ≤ length bytes.now }
-    ensures judged { answer plain result ≡ checked (flaw_checks (frame_flaws frame) (numbers_in bytes.now) at) (numbers_in bytes.now) }
+    ensures judged { answer plain result
+        ≡ checked (flaw_checks (frame_flaws frame) (numbers_in bytes.now) at)
+        (numbers_in bytes.now) }
     ensures same { IfOk result (λ row. drop 1 bytes.now ≡ row_body row ++ drop 17 bytes.now) }
 {
     let numbers = Numbers {
@@ -53,7 +56,8 @@ pub(crate) fn row_in(bytes: &[u8], frame: u32, at: u32) -> Result<Row, Fault>
 // The finding in an entry of nine bytes or more.
 pub(crate) fn finding_in(bytes: &[u8], at: u32) -> Result<Finding, Fault>
     requires { 9 ≤ length bytes.now }
-    ensures judged { answer (λ f. f) result ≡ checked (finding_checks (finding_in bytes.now) at) (finding_in bytes.now) }
+    ensures judged { answer (λ f. f) result
+        ≡ checked (finding_checks (finding_in bytes.now) at) (finding_in bytes.now) }
     ensures same { IfOk result (λ f. drop 1 bytes.now ≡ finding_body f ++ drop 9 bytes.now) }
 {
     let verdict = match number_at(bytes, 1) {

@@ -89,8 +89,13 @@ impl<'a> Reader<'a> {
     // The heading, into the rows.
     fn heading(&mut self) -> Result<Option<Entry>, Fault>
         requires opening { place_of self.old.phase ≡ 0 }
-        ensures judged { answer (λ o. o) result ≡ checked (F_checks (place_of self.old.phase) self.old.rest.now) (Some (Entry.Heading (heading_in self.old.rest.now))) }
-        ensures taken { IfOk result (λ o. (h : Heading) × (o ≡ Some (Entry.Heading h)) × (self.new.phase ≡ Phase.Rows h 0) × (drop 1 self.old.rest.now ≡ heading_body h ++ self.new.rest.now)) }
+        ensures judged { answer (λ o. o) result
+            ≡ checked (F_checks (place_of self.old.phase) self.old.rest.now)
+            (Some (Entry.Heading (heading_in self.old.rest.now))) }
+        ensures taken { IfOk result (λ o. (h : Heading)
+            × (o ≡ Some (Entry.Heading h))
+            × (self.new.phase ≡ Phase.Rows h 0)
+            × (drop 1 self.old.rest.now ≡ heading_body h ++ self.new.rest.now)) }
         ensures refused { OnErr result (self.new ≡ self.old) }
     {
         let heading = heading_entry(self.rest, self.place)?;
@@ -101,8 +106,13 @@ impl<'a> Reader<'a> {
     // A row after so many others.
     fn row(&mut self, heading: Heading, rows: u8) -> Result<Option<Entry>, Fault>
         requires placed { place_of self.old.phase ≡ row_place rows }
-        ensures judged { answer (λ o. o) result ≡ checked (R_checks heading.frame rows (place_of self.old.phase) self.old.rest.now) (row_in self.old.rest.now) }
-        ensures taken { IfOk result (λ o. (row : Row) × (o ≡ Some (Entry.Row row)) × (self.new.phase ≡ Phase.Rows heading (rows + 1)) × (drop 1 self.old.rest.now ≡ row_body row ++ self.new.rest.now)) }
+        ensures judged { answer (λ o. o) result
+            ≡ checked (R_checks heading.frame rows (place_of self.old.phase) self.old.rest.now)
+            (row_in self.old.rest.now) }
+        ensures taken { IfOk result (λ o. (row : Row)
+            × (o ≡ Some (Entry.Row row))
+            × (self.new.phase ≡ Phase.Rows heading (rows + 1))
+            × (drop 1 self.old.rest.now ≡ row_body row ++ self.new.rest.now)) }
         ensures refused { OnErr result (self.new ≡ self.old) }
     {
         let row = row_entry(self.rest, self.place, heading.frame, rows)?;
@@ -115,8 +125,13 @@ impl<'a> Reader<'a> {
     fn finding(&mut self, heading: Heading, rows: u8, findings: u8) -> Result<Option<Entry>, Fault>
         requires placed { place_of self.old.phase ≡ finding_place rows findings }
         requires few { rows ≤ most_rows }
-        ensures judged { answer (λ o. o) result ≡ checked (A_checks rows findings (place_of self.old.phase) self.old.rest.now) (Some (Entry.Finding (finding_in self.old.rest.now))) }
-        ensures taken { IfOk result (λ o. (f : Finding) × (o ≡ Some (Entry.Finding f)) × (self.new.phase ≡ Phase.Findings heading rows (findings + 1)) × (drop 1 self.old.rest.now ≡ finding_body f ++ self.new.rest.now)) }
+        ensures judged { answer (λ o. o) result
+            ≡ checked (A_checks rows findings (place_of self.old.phase) self.old.rest.now)
+            (Some (Entry.Finding (finding_in self.old.rest.now))) }
+        ensures taken { IfOk result (λ o. (f : Finding)
+            × (o ≡ Some (Entry.Finding f))
+            × (self.new.phase ≡ Phase.Findings heading rows (findings + 1))
+            × (drop 1 self.old.rest.now ≡ finding_body f ++ self.new.rest.now)) }
         ensures refused { OnErr result (self.new ≡ self.old) }
     {
         let finding = finding_entry(self.rest, self.place, rows, findings)?;
@@ -137,8 +152,13 @@ impl<'a> Reader<'a> {
         requires placed { place_of self.old.phase ≡ finding_place rows findings }
         requires few { rows ≤ most_rows }
         requires orderly { findings ≤ rows }
-        ensures judged { answer (λ o. o) result ≡ checked (Z_checks rows findings (place_of self.old.phase) self.old.rest.now) (Some (Entry.End (number_at 1 self.old.rest.now))) }
-        ensures taken { IfOk result (λ o. (n : ℕ) × (o ≡ Some (Entry.End n)) × (self.new.phase ≡ Phase.Closed heading rows) × (drop 1 self.old.rest.now ≡ four n ++ self.new.rest.now)) }
+        ensures judged { answer (λ o. o) result
+            ≡ checked (Z_checks rows findings (place_of self.old.phase) self.old.rest.now)
+            (Some (Entry.End (number_at 1 self.old.rest.now))) }
+        ensures taken { IfOk result (λ o. (n : ℕ)
+            × (o ≡ Some (Entry.End n))
+            × (self.new.phase ≡ Phase.Closed heading rows)
+            × (drop 1 self.old.rest.now ≡ four n ++ self.new.rest.now)) }
         ensures refused { OnErr result (self.new ≡ self.old) }
     {
         let number = end_entry(self.rest, self.place, rows, findings)?;

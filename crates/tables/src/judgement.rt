@@ -11,7 +11,9 @@ use rows::{Fault, Numbers, Row};
 // The graver of what is told so far and a fault met later: the one with the smaller number, or the
 // earlier one.
 fn graver(so_far: Result<(), Fault>, fault: Fault) -> Fault
-    ensures { refuses (number result.refusal) result.at ≡ graver {B = Unit {0}} (answer (λ u. u) so_far) (refuses (number fault.refusal) fault.at) }
+    ensures { refuses (number result.refusal) result.at
+        ≡ graver {B = Unit {0}} (answer (λ u. u) so_far)
+        (refuses (number fault.refusal) fault.at) }
 {
     match so_far {
         Err(first) if first.refusal.number() <= fault.refusal.number() => first,

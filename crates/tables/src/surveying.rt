@@ -20,8 +20,12 @@ pub fn survey<B: Bound>(
     table: &[Numbers],
     list: &mut [Finding],
 ) -> Result<usize, Fault>
-    ensures answered { answer (λ n. n) result ≡ checked (survey_checks frame table.now (length list.old)) (length table.now) }
-    ensures filled { MatchResult result (λ _. map tells list.new ≡ written (map tells list.old) 0 (findings_of (B.meaning bound.now) frame (rows_of table.now))) (λ _. list.new ≡ list.old) }
+    ensures answered { answer (λ n. n) result
+        ≡ checked (survey_checks frame table.now (length list.old)) (length table.now) }
+    ensures filled { MatchResult result (λ _. map tells list.new
+        ≡ written (map tells list.old) 0
+        (findings_of (B.meaning bound.now) frame (rows_of table.now)))
+        (λ _. list.new ≡ list.old) }
     ensures stay { StaysOutside 0 (length table.now) list.old list.new }
     ensures rows { OnOk result (map plain (rows_of table.now) ≡ table.now) }
     ensures says { OnOk result (TableSays (B.meaning bound.now) frame (rows_of table.now)) }
