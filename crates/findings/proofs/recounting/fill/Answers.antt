@@ -1,18 +1,9 @@
-use Rattle.std.proofs.Common.{◌≡◌, ◌-◌, ◌<◌, [], map, length, drop, set, refl, ap, ◌∙◌, arith}
+use Rattle.std.proofs.Common.{◌≡◌, ◌-◌, ◌<◌, [], map, length, drop, set, ap, ◌∙◌, arith}
 use Rattle.std.proofs.lemmas.List.{length-drop, length-map, map-set}
 use Rattle.findings.specs.Findings.{tells, finding}
 use Rattle.findings.specs.Tables.{findings_of}
-use Rattle.findings.proofs.Tables.{length_findings_below, rows_above_fit, counted_at, put_none, put_more, put_all, stays_more, outside_end}
+use Rattle.findings.proofs.Tables.{length_findings_below, counted_at, put_more, put_all, stays_more, outside_end}
 use Rattle.findings.proofs.recounting.fill.Goals as goal
-
-pub loop-i-init : goal.loop-i-init
-loop-i-init g c = (omega arith, put_none _ _ c.args.from, λ k d outside. refl)
-
-pub new-requires : goal.new-requires
-new-requires g c = rows_above_fit c.args.frame c.args.rows.now _ c.requires.fit (omega (arith, c.loop-i.auto.i, c.loop-i-test.true))
-
-pub search-requires : goal.search-requires
-search-requires g c = record { busy = omega (arith, ap (λ l. l.own) c.new.ensures); some = omega (arith, c.window.ensures); near = omega (arith, c.window.ensures) }
 
 pub loop-i-preserved : goal.loop-i-preserved
 loop-i-preserved g c =
