@@ -1,10 +1,7 @@
 -- The order of the rows above does not matter.
-use Rattle.std.proofs.Common.{◌≡◌, ℕ, ◌+◌, ◌*◌, Bool, true, false, cond, ◌&&◌, ◌||◌, eqb, ltb, leb, List, [], ◌∷◌, count_by, unwrap_or, sym, refl, ap, ◌∙◌, ap₂, arith}
+use Rattle.std.proofs.Common.{◌≡◌, ℕ, ◌+◌, ◌*◌, Bool, ◌&&◌, ◌||◌, eqb, ltb, leb, unwrap_or, sym, ap, ap₂}
 use mathlib.Core.Path.{fun_ext}
-use Rattle.std.specs.List.Sorted.{IsPermutation}
 use Rattle.std.proofs.lemmas.List.Sorted.{sum_by-IsPermutation, list_any-IsPermutation}
-use Rattle.std.proofs.lemmas.List.Sums.{sum_by-cons}
-use Rattle.std.proofs.lemmas.Bool.{lt-ltb}
 use Rattle.rows.specs.Counting.{window}
 use Rattle.bounds.specs.Instants.{least, count}
 use Rattle.bounds.specs.Meaning.{Meaning}

@@ -2,21 +2,19 @@
 use Rattle.std.proofs.Common.{◌≡◌, ℕ, zero, suc, ◌+◌, ◌-◌, ◌<◌, ◌≤◌, true, ◌≢◌, ◌⊎◌, List, [], ◌∷◌, ◌++◌, length, get_or, take, drop, set, sym, refl, ap, ◌∙◌, subst, ap₂, inl, inr, ⊎_elim, arith}
 use lib.Seq.{paste}
 use Rattle.std.specs.List.{AllPass}
-use Rattle.std.proofs.lemmas.List.Edits.{paste_none, paste_more, paste_all}
+use Rattle.std.proofs.lemmas.List.Edits.{paste_more, paste_all}
 use Rattle.std.proofs.lemmas.List.Elements.{All-take}
-use Rattle.std.proofs.lemmas.List.{append_assoc, append-nil, get_or-drop, get_or-set_other, length-take, take_at}
+use Rattle.std.proofs.lemmas.List.{append_assoc, append-nil, get_or-drop, get_or-set_other, take_at}
 use Rattle.std.proofs.lemmas.Bool.{cases_lt}
 use Rattle.rows.specs.declared.tasks.Row.{Row}
 use Rattle.rows.specs.Counting.{on_frame, window}
 use Rattle.rows.specs.Lists.{written, StaysOutside}
 use Rattle.bounds.specs.Laws.{Laws}
 use Rattle.bounds.specs.Meaning.{Meaning}
-use Rattle.rows.specs.Times.{most_rows}
-use Rattle.findings.specs.Asking.{most_above}
 use Rattle.findings.specs.Demand.{load}
 use Rattle.findings.specs.Findings.{Found, finding, row_finding}
 use Rattle.findings.specs.Tables.{findings_below, findings_of, TableSays}
-use Rattle.findings.specs.Fitting.{Fit, Stands}
+use Rattle.findings.specs.Fitting.{Stands}
 use Rattle.findings.proofs.Walk.{finding_says}
 
 module _ (m : Meaning) (h : ℕ) where
@@ -31,13 +29,6 @@ module _ (m : Meaning) (h : ℕ) where
   finding_below_at above (s ∷ rows) zero d r within = ap (row_finding m h s) (sym (append-nil above))
   finding_below_at above (s ∷ rows) (suc i) d r within =
       finding_below_at (above ++ s ∷ []) rows i d r (omega arith) ∙ ap (row_finding m h (get_or rows i r)) (append_assoc above (s ∷ []) (take i rows))
-
--- the rows before a place fit as rows above
-pub rows_above_fit : (h : ℕ) (rows : List Row) (i : ℕ) → Fit most_rows h rows → i < length rows → Fit most_above h (take i rows)
-rows_above_fit h rows i fit within = record {
-  stands = record { frame = fit.stands.frame; on = All-take (λ r. on_frame h r ≡ true) i rows fit.stands.on };
-  few = omega (arith, length-take i rows, fit.few);
-}
 
 -- a finding counted for the row at a place is the one there among the findings from some place on
 pub counted_at : (m : Meaning) (h : ℕ) (rows : List Row) (from i : ℕ) (r : Row) (f : Found) (last : ℕ) → from ≤ i → i < length rows → r ≡ get_or rows i r → last ≡ window r
@@ -57,10 +48,6 @@ table_says m h rows laws stands xs ys r split =
 
 -- new elements put into a list from a place on, one after another
 module _ {X : Type 0} (old new : List X) (from : ℕ) where
-  -- at first none is
-  pub put_none : old ≡ paste old from new (from - from)
-  put_none = let none : 0 ≡ from - from = omega arith in paste_none old from new ∙ ap (paste old from new) none
-
   -- then one more
   pub put_more : (i : ℕ) (x : X) → from ≤ i → i < length old → i - from < length new → x ≡ get_or new (i - from) x → set (paste old from new (i - from)) i x ≡ paste old from new (i + 1 - from)
   put_more i x late within left read =

@@ -1,5 +1,5 @@
 -- The parts of a leaf's bytes: the heading, the run of rows, the run of findings, and the end.
-use Rattle.std.proofs.Common.{◌≡◌, ℕ, ◌+◌, ◌-◌, ◌*◌, ◌≤◌, List, [], Ok, Err, ◌∷◌, ◌++◌, map, length, take, drop, sym, refl, ap, ◌∙◌, subst, ap₂, arith}
+use Rattle.std.proofs.Common.{◌≡◌, ℕ, ◌+◌, ◌*◌, List, [], Ok, Err, ◌∷◌, ◌++◌, map, length, take, drop, sym, refl, ap, ◌∙◌, subst, ap₂, arith}
 use Rattle.std.proofs.lemmas.Grind.{flat_map-append}
 use Rattle.std.proofs.lemmas.List.{append_assoc, append-nil, length-append}
 use Rattle.std.proofs.Math.Seq.{drop-append_seam, take-append_seam}
@@ -8,10 +8,8 @@ use Rattle.rows.specs.declared.refusals.Fault.{Fault}
 use Rattle.rows.specs.Answers.{Answer, gives, refuses}
 use Rattle.findings.specs.declared.verdicts.Finding.{Finding}
 use Rattle.leaves.specs.declared.entries.Heading.{Heading}
-use Rattle.leaves.specs.declared.entries.Entry.{Entry}
 use Rattle.leaves.specs.declared.entries.Entry.TheVariants.{Heading as heading, Row as row, Finding as finding, End as end}
-use Rattle.leaves.specs.Bytes.{four}
-use Rattle.leaves.specs.Entries.{entry_bytes, letter_Z}
+use Rattle.leaves.specs.Entries.{entry_bytes}
 use Rattle.leaves.specs.Contents.{Contents, bytes_of}
 use Rattle.reading.specs.Whole.{Fits}
 use Rattle.reading.specs.declared.contents.Leaf.{Leaf}

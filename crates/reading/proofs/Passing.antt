@@ -1,43 +1,32 @@
 -- A reader that passes entry after entry, and where it stops.
-use Rattle.std.proofs.Common.{◌≡◌, ℕ, suc, is_some, Ok, ◌+◌, ◌<◌, ◌≤◌, Bool, true, false, cond, not, eqb, ltb, leb, List, [], ◌∷◌, ◌++◌, length, get_or, Some, None, Option, sym, refl, ap, ◌∙◌, subst, arith}
+use Rattle.std.proofs.Common.{◌≡◌, ℕ, is_some, Ok, ◌+◌, ◌<◌, Bool, true, false, cond, eqb, ltb, leb, List, [], ◌∷◌, ◌++◌, length, get_or, Some, None, Option, sym, refl, ap, ◌∙◌, subst, arith}
 use Rattle.std.specs.Option.{option_map}
-use Rattle.std.proofs.lemmas.List.{append-nil, get_or-append-add, length-append}
+use Rattle.std.proofs.lemmas.List.{append-nil, get_or-append-add}
 use Rattle.std.proofs.lemmas.Bool.{eqb-false, eqb-true, ltb-false, false≢true}
 use Rattle.rows.specs.declared.tasks.Numbers.{Numbers}
 use Rattle.rows.specs.declared.tasks.Row.{Row}
-use Rattle.rows.specs.Answers.{Answer, gives, refuses, check, checked}
+use Rattle.rows.specs.Answers.{gives, refuses, checked}
 use Rattle.rows.specs.Judging.{plain, row_of, frame_flaws, flaw_checks}
 use Rattle.rows.specs.Times.{horizon, most_rows}
 use Rattle.rows.proofs.Checks.{first_passes, given_is}
 use Rattle.rows.proofs.SameRow.{row_of_plain}
 use Rattle.leaves.specs.declared.entries.Heading.{Heading}
 use Rattle.leaves.specs.declared.entries.Entry.{Entry}
-use Rattle.leaves.specs.declared.entries.Entry.TheVariants.{Heading as heading, Row as row, Finding as finding, End as end}
+use Rattle.leaves.specs.declared.entries.Entry.TheVariants.{Row as row}
 use Rattle.leaves.specs.Entries.{entry_bytes, letter_F, letter_R, letter_A}
-use Rattle.leaves.specs.Contents.{Contents, bytes_of, encoding}
+use Rattle.leaves.specs.Contents.{Contents, bytes_of}
 use Rattle.reading.specs.declared.phases.Phase.{Phase}
 use Rattle.reading.specs.declared.phases.Phase.TheVariants.{Opening, Rows, Findings, Closed}
 use Rattle.reading.specs.Phases.{place_of, rows_in, frame_in, after, takes}
 use Rattle.reading.specs.Fields.{numbers_in, row_in, entry_in}
 use Rattle.reading.specs.Stepping.{entry_checks, next_answer, Stepped}
-use Rattle.reading.specs.Runs.{Stands, after_all}
+use Rattle.reading.specs.Runs.{Stands}
 use Rattle.reading.specs.Passed.{Passed}
 use Rattle.reading.specs.Whole.{RefusedAt, Fits}
 use Rattle.reading.proofs.Turns.{opened, turn_R}
 use Rattle.reading.proofs.Standing.{Sound, opening_sound, in_turn, stands}
 use Rattle.reading.proofs.Walks.{well_push, after_push, bytes_push, sound_all, placed_all}
 use Rattle.reading.proofs.Wholes.{closing}
-
--- an entry has a byte at least
-pub some_bytes : (e : Entry) → 1 ≤ length (entry_bytes e)
-some_bytes (heading h) = omega arith
-some_bytes (row r) = omega arith
-some_bytes (finding f) = omega arith
-some_bytes (end n) = omega arith
-
--- at the start nothing has been read
-pub passed_none : (bytes : List ℕ) → Passed bytes Opening bytes
-passed_none bytes = record { before = []; split = refl; well = tt; leads = refl }
 
 module _ (bytes : List ℕ) (p : Phase) (rest : List ℕ) (passed : Passed bytes p rest) where
   -- the phase is sound, and its place is past the bytes of the entries

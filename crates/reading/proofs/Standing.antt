@@ -1,10 +1,9 @@
 -- An entry that may stand in a phase is what the checks there give for its bytes, and they give no other.
-use Rattle.std.proofs.Common.{◌≡◌, ℕ, suc, ◌+◌, ◌*◌, ◌%◌, ◌^◌, ◌<◌, ◌≤◌, Bool, true, false, cond, not, ◌&&◌, eqb, ltb, leb, List, [], ◌∷◌, ◌++◌, length, get_or, Some, None, Option, unwrap_or, sym, refl, ap, ◌∙◌, subst, ⊎_elim, arith, lit<}
+use Rattle.std.proofs.Common.{◌≡◌, ℕ, ◌+◌, ◌%◌, ◌^◌, ◌<◌, ◌≤◌, Bool, true, false, not, eqb, ltb, leb, List, [], ◌∷◌, ◌++◌, length, get_or, Some, Option, unwrap_or, sym, refl, ap, ◌∙◌, subst, arith}
 use Rattle.std.specs.Option.{option_map}
-use Rattle.std.proofs.lemmas.Bool.{and_parts, false≢true, cond-false, cases_Bool, eqb-true, eqb-false, le-ltb, le-leb, leb-false, leb-true, ltb-false, lt-leb, ne_eqb, eq-eqb, not_from_true, not-false, not-true, or_parts, or_from}
-use Rattle.rows.specs.declared.tasks.Numbers.{Numbers}
+use Rattle.std.proofs.lemmas.Bool.{and_parts, false≢true, cond-false, eqb-true, le-ltb, leb-false, leb-true, ltb-false, lt-leb, ne_eqb, eq-eqb, not_from_true, not-false, or_parts}
 use Rattle.rows.specs.declared.tasks.Row.{Row}
-use Rattle.rows.specs.Answers.{Answer, gives, refuses, Check, check, checked, Passes}
+use Rattle.rows.specs.Answers.{Answer, gives, check, checked, Passes}
 use Rattle.rows.specs.Counting.{on_frame}
 use Rattle.rows.specs.Judging.{plain, row_of, frame_flaws, flaw_checks}
 use Rattle.rows.specs.Times.{horizon, is_frame, most_rows}
@@ -26,7 +25,6 @@ use Rattle.reading.specs.declared.phases.Phase.{Phase}
 use Rattle.reading.specs.declared.phases.Phase.TheVariants.{Opening, Rows, Findings, Closed}
 use Rattle.reading.specs.Phases.{rows_in, findings_in, frame_in, place_of, takes, after}
 use Rattle.reading.specs.Fields.{is_kind, heading_in, numbers_in, row_in, verdict_of, finding_in}
-use Rattle.reading.specs.Kinds.{F_checks, R_checks, A_checks, Z_checks}
 use Rattle.reading.specs.Stepping.{next_answer}
 use Rattle.reading.specs.Runs.{Stands}
 use Rattle.reading.proofs.Turns.{turn_F, turn_R, turn_A, turn_Z}

@@ -1,9 +1,9 @@
 -- What the checks at an entry come to, once its kind is known to be in turn.
-use Rattle.std.proofs.Common.{◌≡◌, ℕ, true, List, [], ◌∷◌, ◌++◌, drop, IfOk, IfErr, Some, None, Ok, Err, Option, Result, sym, refl, ap, ◌∙◌, subst, arith}
+use Rattle.std.proofs.Common.{◌≡◌, ℕ, true, List, [], ◌∷◌, ◌++◌, drop, IfOk, IfErr, Some, Ok, Err, Option, Result, sym, refl, ap, ◌∙◌, subst}
 use Rattle.rows.specs.declared.refusals.Fault.{Fault}
 use Rattle.rows.specs.Answers.{answer, checked}
 use Rattle.leaves.specs.declared.entries.Entry.{Entry}
-use Rattle.leaves.specs.declared.entries.Entry.TheVariants.{Heading as heading, Row as row, Finding as finding, End as end}
+use Rattle.leaves.specs.declared.entries.Entry.TheVariants.{Heading as heading, Finding as finding, End as end}
 use Rattle.leaves.specs.Bytes.{number_at}
 use Rattle.leaves.specs.Entries.{entry_bytes}
 use Rattle.reading.specs.declared.phases.Phase.{Phase}

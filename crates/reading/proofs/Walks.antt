@@ -1,7 +1,7 @@
 -- Runs of entries: one entry more, and that no bytes can be read in two ways.
-use Rattle.std.proofs.Common.{◌≡◌, ℕ, ◌+◌, List, [], ◌∷◌, ◌++◌, length, Some, Option, sym, refl, ap, ◌∙◌, subst, ap₂, arith}
+use Rattle.std.proofs.Common.{◌≡◌, ℕ, ◌+◌, List, [], ◌∷◌, ◌++◌, length, Some, sym, refl, ap, ◌∙◌, subst, ap₂, arith}
 use Rattle.std.proofs.lemmas.List.{append_assoc, append_cancel_left, append-nil, length-append}
-use Rattle.rows.specs.Answers.{Answer, gives}
+use Rattle.rows.specs.Answers.{gives}
 use Rattle.leaves.specs.declared.entries.Entry.{Entry}
 use Rattle.leaves.specs.Entries.{entry_bytes}
 use Rattle.leaves.specs.Contents.{bytes_of}

@@ -1,18 +1,17 @@
 -- Whole leaves: contents and the entries that reach the closed phase.
-use Rattle.std.proofs.Common.{◌≡◌, ℕ, suc, ◌+◌, ◌<◌, ◌≤◌, true, false, List, [], ◌∷◌, ◌++◌, map, length, Some, None, Option, sym, refl, ap, ◌∙◌, subst, ap₂, arith}
+use Rattle.std.proofs.Common.{◌≡◌, ℕ, ◌+◌, ◌≤◌, true, List, [], ◌∷◌, ◌++◌, map, length, sym, refl, ap, ◌∙◌, subst, ap₂, arith}
 use Rattle.std.specs.List.{All, AllPass}
 use Rattle.std.proofs.lemmas.List.Elements.{All-cons, All-head, All-nil, All-tail}
 use Rattle.std.proofs.lemmas.List.{append-nil}
 use Rattle.std.proofs.lemmas.Bool.{false≢true}
 use Rattle.rows.specs.declared.tasks.Row.{Row}
-use Rattle.rows.specs.Answers.{Answer, gives, refuses, Passes}
+use Rattle.rows.specs.Answers.{Answer, gives, refuses}
 use Rattle.rows.specs.Counting.{on_frame}
 use Rattle.rows.specs.Times.{most_rows}
 use Rattle.findings.specs.declared.verdicts.Finding.{Finding}
 use Rattle.leaves.specs.declared.entries.Heading.{Heading}
 use Rattle.leaves.specs.declared.entries.Entry.{Entry}
 use Rattle.leaves.specs.declared.entries.Entry.TheVariants.{Heading as heading, Row as row, Finding as finding, End as end}
-use Rattle.leaves.specs.Judging.{heading_checks}
 use Rattle.leaves.specs.Contents.{Contents, entries, bytes_of, encoding, Filable, Lawful}
 use Rattle.reading.specs.declared.phases.Phase.{Phase}
 use Rattle.reading.specs.declared.phases.Phase.TheVariants.{Opening, Rows, Findings, Closed}
@@ -20,7 +19,7 @@ use Rattle.reading.specs.Phases.{after}
 use Rattle.reading.specs.Stepping.{next_answer}
 use Rattle.reading.specs.Runs.{Stands, WellFormed, after_all}
 use Rattle.reading.specs.Whole.{RefusedAt, Fits, FitsOnce}
-use Rattle.reading.proofs.Standing.{Sound, opening_sound}
+use Rattle.reading.proofs.Standing.{opening_sound}
 use Rattle.reading.proofs.Walks.{Stuck, same_run}
 
 -- entries that are well formed from one phase and lead to another

@@ -1,5 +1,5 @@
 -- Entries that stand one after the other, each well formed in its phase.
-use Rattle.std.specs.Prelude.{◌≡◌, ℕ, ◌+◌, ◌<◌, ◌≤◌, true, List, [], ◌∷◌}
+use Rattle.std.specs.Prelude.{◌≡◌, ◌+◌, ◌<◌, ◌≤◌, true, List, [], ◌∷◌}
 use Rattle.rows.specs.Answers.{Passes}
 use Rattle.rows.specs.Counting.{on_frame}
 use Rattle.rows.specs.Times.{most_rows}

@@ -1,8 +1,7 @@
 -- What is known of a value that comes through checks, and of one that does not.
-use Rattle.std.proofs.Common.{◌≡◌, ℕ, Bool, true, false, cond, List, [], ◌∷◌, ◌++◌, IfOk, Ok, Err, Result, refl, ap, ◌∙◌, arith}
+use Rattle.std.proofs.Common.{◌≡◌, ℕ, Bool, true, false, cond, List, [], ◌∷◌, ◌++◌, refl, ap, ◌∙◌}
 use Rattle.std.proofs.lemmas.List.{append-nil}
-use Rattle.rows.specs.declared.refusals.Fault.{Fault}
-use Rattle.rows.specs.Answers.{Answer, answer, gives, refuses, Check, checked}
+use Rattle.rows.specs.Answers.{Answer, gives, refuses, Check, checked}
 
 -- where a value is given, the first check found nothing wrong, and the others give it
 pub first_passes : {A : Type 0} (wrong : Bool) (refusal at : ℕ) (x : A) (rest : Answer A) → gives x ≡ cond wrong (refuses refusal at) rest → (wrong ≡ false) × (gives x ≡ rest)
@@ -13,11 +12,6 @@ first_passes false refusal at x rest given = (refl, given)
 pub given_is : {A : Type 0} (cs : List Check) (x y : A) → gives x ≡ checked cs y → x ≡ y
 given_is [] x y given = cc
 given_is (c ∷ cs) x y given = given_is cs x y (first_passes c.wrong c.refusal c.at x (checked cs y) given).1
-
--- and so it is with the value of a result
-pub made_is : {X A : Type 0} (r : Result X Fault) (f : X → A) (cs : List Check) (y : A) → answer f r ≡ checked cs y → IfOk r (λ x. f x ≡ y)
-made_is (Ok x) f cs y given = given_is cs (f x) y given
-made_is (Err e) f cs y refused = tt
 
 -- what the first checks refuse is refused with more checks after them
 pub refused_first : {A B : Type 0} (cs ds : List Check) (n at : ℕ) (y : A) → refuses n at ≡ checked cs y → (z : B) → refuses n at ≡ checked (cs ++ ds) z

@@ -1,5 +1,5 @@
 -- A row is known by its four numbers.
-use Rattle.std.proofs.Common.{◌≡◌, ℕ, ◌+◌, ◌≤◌, List, [], ◌∷◌, map, Some, refl, ◌∙◌, ap₂, arith}
+use Rattle.std.proofs.Common.{◌≡◌, ◌+◌, ◌≤◌, List, [], ◌∷◌, map, Some, refl, ◌∙◌, ap₂}
 use mathlib.Core.HLevel.{is_prop→PathP}
 use mathlib.Core.Logic.{dif_pos}
 use native.Mathlib.Decide.{dec_le}

@@ -1,12 +1,12 @@
 -- The laws of jobs counted in batches.
-use Rattle.std.specs.Prelude.{◌≡◌, ℕ, ◌+◌, ◌-◌, ◌*◌, ◌^◌, ◌<◌, ◌≤◌, false, refl}
+use Rattle.std.specs.Prelude.{◌≡◌, ℕ, ◌+◌, ◌-◌, ◌*◌, ◌≤◌, false, refl}
 use Rattle.std.proofs.Math.Nat.{eq_of_mul-eq-mul_left}
 use Rattle.std.proofs.Common.{arith}
 use Rattle.std.proofs.lemmas.Nat.{mul-le}
 use Rattle.rows.specs.declared.tasks.Row.{Row}
 use Rattle.rows.specs.Times.{horizon}
 use Rattle.rows.specs.Counting.{steps}
-use Rattle.rows.proofs.Ceiling.{ceiling_grows, ceiling_tight}
+use Rattle.rows.proofs.Ceiling.{ceiling_grows}
 use Rattle.bounds.specs.Laws.{Laws}
 use Rattle.bounds.specs.Meaning.{finest}
 use Rattle.bounds.specs.Supplied.{rises}
@@ -22,12 +22,6 @@ jobs_grow r s t order = ceiling_grows (s + r.jitter) (t + r.jitter) r.period (om
 -- and where exact steps do not rise, there are as many jobs an instant later
 jobs_stay : (r : Row) (t : ℕ) → 1 ≤ t → rises r t ≡ false → job_count r (t + 1) ≡ job_count r t
 jobs_stay r t late rest = eq_of_mul-eq-mul_left r.work r.busy _ _ (steps_stay r t late rest)
-
--- up to the horizon a row has fewer than 2^32 jobs
-pub jobs_few : (r : Row) (t : ℕ) → t ≤ horizon → job_count r t < 2 ^ 32
-jobs_few r t near =
-    let tight = ceiling_tight (t + r.jitter) r.period (omega arith) in
-    omega (arith, mul-le (job_count r t) 1 (job_count r t) r.period (omega arith) (omega arith))
 
 -- more jobs have no fewer parts
 parts_grow : (h w m n : ℕ) → m ≤ n → h * (w * m) ≤ h * (w * n)

@@ -1,14 +1,8 @@
 use Rattle.std.proofs.Common.{sym, arith}
 use Rattle.bounds.specs.Lemmas.Asking.{asked_tells, asked_then}
 use Rattle.bounds.proofs.Fitting.{amount_fits}
-use Rattle.batches.specs.Lemmas.BatchLaws.{jobs_few, batch_laws}
+use Rattle.batches.specs.Lemmas.BatchLaws.{batch_laws}
 use Rattle.batches.proofs.BatchesBound.amount.Goals as goal
-
-pub counted-jobs-requires : goal.counted-jobs-requires
-counted-jobs-requires c =
-    let row = c.args.row.now in
-    let ask = asked_tells c.args.frame row c.args.at (sym c.if-not-asked.ensures) in
-    rw c.job_count.ensures (jobs_few row _ (omega arith))
 
 pub overflow_mul-result-2 : goal.overflow_mul-result-2
 overflow_mul-result-2 c =

@@ -1,5 +1,5 @@
 use Rattle.std.proofs.lemmas.Result.{err_from_is_err_and}
-use Rattle.rows.proofs.Checks.{answered_once, refuses_any}
+use Rattle.rows.proofs.Checks.{refuses_any}
 use Rattle.findings.specs.Asking.{checks}
 use Rattle.brackets.proofs.Bracket.{brackets, fewer_above}
 use Rattle.brackets.proofs.Counted.{counted, exactly, between}
@@ -17,10 +17,6 @@ returns-in_err-exact g c =
       fewer = fewer_above (g.B.Bound.meaning c.args.bound.now);
       order = any_order (g.B.Bound.meaning c.args.bound.now);
     }
-
-pub returns-in_err-bounded : goal.returns-in_err-bounded
-returns-in_err-bounded g c =
-    absurd (answered_once (checks c.args.frame c.args.row.now c.args.above.now) _ _ _ _ _ c.in_ok-exact.ensures.found c.in_err-bounded.ensures.found)
 
 pub returns : goal.returns
 returns g c =

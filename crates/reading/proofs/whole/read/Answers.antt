@@ -1,9 +1,9 @@
-use Rattle.std.proofs.Common.{◌≡◌, ◌+◌, ◌-◌, ◌*◌, List, map, take, drop, ap, ap₂, ◌∙◌, subst, Ok, Err, arith}
+use Rattle.std.proofs.Common.{◌≡◌, ◌+◌, ◌-◌, ◌*◌, map, take, drop, ap, ap₂, ◌∙◌, subst, Err, arith}
 use Rattle.std.proofs.lemmas.Result.{err_from_is_err_and}
 use Rattle.rows.specs.Answers.{gives}
 use Rattle.leaves.specs.declared.entries.Entry.TheVariants.{Row as row, Finding as finding}
 use Rattle.leaves.specs.Contents.{bytes_of}
-use Rattle.reading.specs.Leaves.{Holds, Reads}
+use Rattle.reading.specs.Leaves.{Reads}
 use Rattle.reading.proofs.Parts.{counted_fits, refused_reads, in_parts, held_parts, leaf_reads, holding}
 use Rattle.reading.proofs.Wholes.{fits_once}
 use Rattle.reading.proofs.whole.read.Goals as goal

@@ -2,7 +2,7 @@ use Rattle.std.proofs.Common.{sym, refl, ◌∙◌}
 use Rattle.std.proofs.lemmas.Result.{err_from_is_err_and}
 use Rattle.rows.specs.Answers.{gives, refuses}
 use Rattle.rows.specs.Refusals.{number}
-use Rattle.reading.proofs.Passing.{Finished, passed_refused, passed_step, passed_end, closed_same}
+use Rattle.reading.proofs.Passing.{passed_refused, passed_step, passed_end, closed_same}
 use Rattle.reading.proofs.whole.read_all.Goals as goal
 
 pub returns-in_err-next : goal.returns-in_err-next

@@ -1,4 +1,4 @@
-use Rattle.std.proofs.Common.{ℕ, length}
+use Rattle.std.proofs.Common.{length}
 use Rattle.reading.specs.Passed.{Passed}
 use Rattle.reading.proofs.whole.read_all.Given as goal
 

@@ -1,10 +1,9 @@
-use Rattle.std.proofs.Common.{◌≡◌, ℕ, ◌+◌, List, map, length, take, IfOk, sym, refl, ap, ◌∙◌, subst, arith, take_all}
+use Rattle.std.proofs.Common.{◌≡◌, ℕ, ◌+◌, List, map, take, IfOk, sym, refl, ap, ◌∙◌, subst, arith}
 use Rattle.std.proofs.lemmas.Result.{IfOk-weaker}
 use Rattle.rows.specs.declared.tasks.Numbers.{Numbers}
 use Rattle.rows.specs.declared.tasks.Row.{Row}
 use Rattle.rows.specs.Answers.{answer}
 use Rattle.rows.specs.Judging.{plain}
-use Rattle.tables.specs.Judgement.{judged}
 use Rattle.tables.proofs.Judged.{judged_none, judged_more, rows_more}
 use Rattle.tables.proofs.judgement.judge_all.Goals as goal
 use Rattle.tables.proofs.judgement.judge_all.Goals.{in-Ok, in-Err}
@@ -35,13 +34,3 @@ loop-i-preserved c =
         subst (λ v. IfOk v (λ _. Rows-are (i + 1) table c.match-judge_on.rows)) (sym w.verdict-is) tt,
       )
     ]
-
-pub returns : goal.returns
-returns c =
-    let table = c.args.table.now in
-    let all = take_all c.loop-i.i table c.loop-i-test.false in
-    let end : c.loop-i.i ≡ length table = omega (arith, c.loop-i-test.false) in
-    record {
-      judged = c.loop-i.invariant.1 ∙ ap (judged c.args.frame) all;
-      rows = IfOk-weaker c.loop-i.verdict _ _ (λ _ are. ap (λ n. map plain (take n c.loop-i.rows)) (sym end) ∙ are ∙ all) c.loop-i.invariant.2;
-    }

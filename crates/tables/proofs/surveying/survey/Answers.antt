@@ -2,7 +2,7 @@ use Rattle.std.proofs.Common.{map, length, refl, ap, ◌∙◌, subst}
 use Rattle.std.proofs.lemmas.Result.{err_from_is_err_and}
 use Rattle.rows.specs.Judging.{plain, frame_flaws}
 use Rattle.rows.specs.Lists.{written, StaysOutside}
-use Rattle.rows.proofs.Checks.{answered_once, gives_any, passed_first, refused_first, refuses_any}
+use Rattle.rows.proofs.Checks.{answered_once, gives_any, passed_first, refuses_any}
 use Rattle.findings.specs.Asking.{size_checks, table_checks}
 use Rattle.findings.specs.Findings.{tells}
 use Rattle.findings.specs.Tables.{findings_of, TableSays}
@@ -10,14 +10,6 @@ use Rattle.tables.specs.Surveys.{flaws_in}
 use Rattle.tables.proofs.Judged.{rows_made, numbers_kept, rows_counted}
 use Rattle.tables.proofs.Passing.{count_passes}
 use Rattle.tables.proofs.surveying.survey.Goals as goal
-
-pub returns-in_err-check_size : goal.returns-in_err-check_size
-returns-in_err-check_size g c =
-    let p = err_from_is_err_and c.from_residual.result c.from_residual.ensures.1 in
-    let table = c.args.table.now in
-    let sizes = size_checks c.args.frame (length table) (length c.args.list.now) in
-    let flaws = flaws_in (frame_flaws c.args.frame) table in
-    rw (p.1, p.2) (record { answered = refused_first sizes flaws _ _ tt c.in_err-check_size.ensures.checked (length table); filled = refl; stay = λ k d outside. refl; rows = tt; says = tt })
 
 pub returns-in_err-judge_all : goal.returns-in_err-judge_all
 returns-in_err-judge_all g c =
@@ -28,7 +20,6 @@ returns-in_err-judge_all g c =
     let left = passed_first sizes flaws tt tt c.in_ok-check_size.ensures.checked (length table) in
     rw (p.1, p.2) (record { answered = refuses_any flaws _ _ tt c.in_err-judge_all.ensures.judged (length table) ∙ left; filled = refl; stay = λ k d outside. refl; rows = tt; says = tt })
 
--- once a table is judged, counting it is not refused
 pub returns-in_err-recount : goal.returns-in_err-recount
 returns-in_err-recount g c =
     let table = c.args.table.now in
