@@ -12,8 +12,8 @@ ghost use Rattle.batches.specs.Lemmas.BatchLaws.{batch_laws};
 use bounds::{Bound, ExactSteps, FINEST, asked};
 use rows::{Fault, HORIZON, Refusal, Row};
 
-// Jobs are counted one by one while they are few, and in whole batches of `size` jobs once they
-// fill `accuracy` batches: rounding up then adds at most one part in `accuracy`.
+/// Jobs are counted one by one while they are few, and in whole batches of `size` jobs once they
+/// fill `accuracy` batches: rounding up then adds at most one part in `accuracy`.
 #[derive(Clone, Copy, PartialEq, Eq, Debug)]
 pub struct Batches {
     accuracy: u32,
@@ -32,8 +32,8 @@ fn job_count(row: &Row, at: u32) -> u64
 }
 
 impl Batches {
-    // The bound of an accuracy from 1 to 64 and a batch size from 1 to the horizon; refused with
-    // bad accuracy otherwise.
+    /// The bound of an accuracy from 1 to 64 and a batch size from 1 to the horizon; refused with
+    /// bad accuracy otherwise.
     pub fn new(accuracy: u32, size: u32) -> Result<Batches, Fault>
         ensures { answer (λ b. parameters b.accuracy b.size) result
             ≡ checked (batch_checks accuracy size) (parameters accuracy size) }

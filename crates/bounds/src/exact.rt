@@ -6,7 +6,7 @@ use crate::interface::{Bound, FINEST, asked};
 use crate::releases::next_rise;
 use rows::{HORIZON, Row};
 
-// The count in exact steps: no amount is rounded, and every step is a corner.
+/// The count in exact steps: no amount is rounded, and every step is a corner.
 #[derive(Clone, Copy, PartialEq, Eq, Debug)]
 pub struct ExactSteps;
 

@@ -9,7 +9,7 @@ use crate::interface::{Bound, FINEST, asked};
 use crate::releases::next_rise;
 use rows::{Fault, HORIZON, Refusal, Row};
 
-// The linear tail of an accuracy from 1 to 64: the larger, the closer to the steps.
+/// The linear tail of an accuracy from 1 to 64: the larger, the closer to the steps.
 #[derive(Clone, Copy, PartialEq, Eq, Debug)]
 pub struct LinearTail {
     accuracy: u32,
@@ -18,7 +18,7 @@ pub struct LinearTail {
 }
 
 impl LinearTail {
-    // The linear tail of accuracy k; refused with bad accuracy outside 1 to 64.
+    /// The linear tail of accuracy k; refused with bad accuracy outside 1 to 64.
     pub fn new(accuracy: u32) -> Result<LinearTail, Fault>
         ensures made { answer (λ tail. tail.accuracy) result
             ≡ checked (check (not (is_accuracy accuracy)) 3 0 ∷ []) accuracy }

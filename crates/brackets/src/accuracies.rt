@@ -11,7 +11,7 @@ use bounds::{FINEST, LinearTail};
 use findings::{Verdict, find};
 use rows::{Fault, Row};
 
-// The least accuracy of a linear tail by which the row meets, if there is one.
+/// The least accuracy of a linear tail by which the row meets, if there is one.
 pub fn least_accuracy(frame: u32, row: &Row, above: &[Row]) -> Result<Option<u32>, Fault>
     ensures least { answer (λ o. o) result
         ≡ checked (checks frame row.now above.now)

@@ -11,7 +11,7 @@ use bounds::{Bound, ExactSteps};
 use findings::{Finding, Verdict, find};
 use rows::{Fault, Row};
 
-// A row counted twice: in exact steps and by a bound.
+/// A row counted twice: in exact steps and by a bound.
 #[derive(Clone, Copy, PartialEq, Eq, Debug)]
 pub struct Counts {
     pub exact: Finding,
@@ -19,7 +19,7 @@ pub struct Counts {
 }
 
 impl Counts {
-    // How much later the row rests by the bound than in exact steps, where it meets by both.
+    /// How much later the row rests by the bound than in exact steps, where it meets by both.
     pub fn gap(&self) -> Option<u32>
         ensures { result ≡ gap (told self.now.exact.verdict) (told self.now.bounded.verdict) }
     {
@@ -30,7 +30,7 @@ impl Counts {
     }
 }
 
-// The findings about a row below others, in exact steps and by a bound.
+/// The findings about a row below others, in exact steps and by a bound.
 pub fn count_both<B: Bound>(
     bound: &B,
     frame: u32,

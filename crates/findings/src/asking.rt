@@ -44,7 +44,7 @@ fn check(frame: u32, row: &Row, above: &[Row]) -> Result<(), Fault>
     Ok(())
 }
 
-// The finding about a row below others, by a bound.
+/// The finding about a row below others, by a bound.
 pub fn find<B: Bound>(bound: &B, frame: u32, row: &Row, above: &[Row]) -> Result<Finding, Fault>
     ensures found { answer tells result
         ≡ checked (checks frame row.now above.now)
@@ -55,7 +55,7 @@ pub fn find<B: Bound>(bound: &B, frame: u32, row: &Row, above: &[Row]) -> Result
     Ok(Load::new(bound, frame, row.work, above).search(row.window()))
 }
 
-// The response time of a row below others, in exact steps: none where it misses its deadline.
+/// The response time of a row below others, in exact steps: none where it misses its deadline.
 pub fn response_time(frame: u32, row: &Row, above: &[Row]) -> Result<Option<u64>, Fault>
     ensures responds { answer (λ o. o) result
         ≡ checked (checks frame row.now above.now) (response row.now above.now) }

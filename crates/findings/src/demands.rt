@@ -14,7 +14,7 @@ use rows::Row;
 
 impl<'a, B: Bound> Load<'a, B> {
     // The load of some own work below rows that passed their checks.
-    pub(crate) fn new(bound: &'a B, frame: u32, own: u32, above: &'a [Row]) -> Load<'a, B>
+    pub(crate) fn new(bound: &'a B, frame: u32, own: u32, above: &'a [Row]) -> Self
         requires { Fit most_above frame above.now }
         ensures { load_of result ≡ load (B.meaning bound.now) frame own above.now }
     {

@@ -14,7 +14,7 @@ use crate::verdicts::Finding;
 use bounds::Bound;
 use rows::{Fault, MOST_ROWS, Refusal, Row, is_frame};
 
-// Whether a table of so many rows on the frame can be counted into a list of so many places.
+/// Whether a table of so many rows on the frame can be counted into a list of so many places.
 pub fn check_size(frame: u32, rows: usize, places: usize) -> Result<(), Fault>
     ensures checked { answer (λ u. u) result ≡ checked (size_checks frame rows places) tt }
     ensures sized { OnOk result (Sized frame rows places) }
@@ -60,8 +60,8 @@ fn fill<B: Bound>(bound: &B, frame: u32, rows: &[Row], from: usize, list: &mut [
     }
 }
 
-// The findings of the rows of a table, each below the rows before it, put into the list in rank
-// order. The first `from` places stay, and so do those past the last row.
+/// The findings of the rows of a table, each below the rows before it, put into the list in rank
+/// order. The first `from` places stay, and so do those past the last row.
 pub fn recount<B: Bound>(
     bound: &B,
     frame: u32,

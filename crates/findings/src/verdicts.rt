@@ -5,15 +5,15 @@ ghost use Rattle.findings.specs.Findings.{told};
 
 use rows::Row;
 
-// Whether a row meets its deadline: it does, with its first rest, the least instant by which all
-// that is demanded up to it is served; or it misses.
+/// Whether a row meets its deadline: it does, with its first rest, the least instant by which all
+/// that is demanded up to it is served; or it misses.
 #[derive(Clone, Copy, PartialEq, Eq, Debug)]
 pub enum Verdict {
     Meets(u32),
     Misses,
 }
 
-// What is found about a row: the verdict, and how many points were tested to come to it.
+/// What is found about a row: the verdict, and how many points were tested to come to it.
 #[derive(Clone, Copy, PartialEq, Eq, Debug)]
 pub struct Finding {
     pub verdict: Verdict,
@@ -21,8 +21,8 @@ pub struct Finding {
 }
 
 impl Finding {
-    // The first rest plus the row's jitter: in exact steps the response time, by another bound a
-    // bound on it.
+    /// The first rest plus the row's jitter: in exact steps the response time, by another bound a
+    /// bound on it.
     pub fn response_bound(&self, row: &Row) -> Option<u64>
         ensures { result ≡ option_map (λ t. t + row.now.jitter) (told self.now.verdict) }
     {

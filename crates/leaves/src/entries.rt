@@ -2,8 +2,8 @@
 use findings::Finding;
 use rows::Row;
 
-// The heading of a leaf, as plain numbers that nobody has judged: the frame, the bound by its
-// number (0 exact steps, 1 linear tail), and the accuracy of the linear tail (0 for exact steps).
+/// The heading of a leaf, as plain numbers that nobody has judged: the frame, the bound by its
+/// number (0 exact steps, 1 linear tail), and the accuracy of the linear tail (0 for exact steps).
 #[derive(Clone, Copy, PartialEq, Eq, Debug)]
 pub struct Heading {
     pub frame: u32,
@@ -11,8 +11,8 @@ pub struct Heading {
     pub accuracy: u8,
 }
 
-// An entry of a leaf: the heading, a row, the finding about a row, or the end with the number of
-// entries before it.
+/// An entry of a leaf: the heading, a row, the finding about a row, or the end with the number of
+/// entries before it.
 #[derive(Clone, Copy, PartialEq, Eq, Debug)]
 pub enum Entry {
     Heading(Heading),

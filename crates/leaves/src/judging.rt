@@ -12,8 +12,8 @@ use rows::{Fault, HORIZON, Refusal, is_frame};
 const LAST_BOUND: u8 = 1;
 
 impl Heading {
-    // Whether the heading can be filed: bad frame, unknown bound, bad accuracy. A refusal tells the
-    // position that the caller hands in.
+    /// Whether the heading can be filed: bad frame, unknown bound, bad accuracy. A refusal tells the
+    /// position that the caller hands in.
     pub fn judge(&self, at: u32) -> Result<(), Fault>
         ensures { answer (λ u. u) result ≡ checked (heading_checks self.now at) tt }
     {
@@ -40,8 +40,8 @@ impl Heading {
     }
 }
 
-// Whether a finding can be filed: it has points, and a first rest lies from 1 to the horizon. A
-// refusal tells the position that the caller hands in.
+/// Whether a finding can be filed: it has points, and a first rest lies from 1 to the horizon. A
+/// refusal tells the position that the caller hands in.
 pub fn judge_finding(finding: &Finding, at: u32) -> Result<(), Fault>
     ensures { answer (λ u. u) result ≡ checked (finding_checks finding.now at) tt }
 {

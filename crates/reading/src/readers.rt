@@ -5,7 +5,7 @@ ghost use Rattle.reading.specs.Phases.{place_of, rows_in, findings_in};
 
 use crate::phases::Phase;
 
-// A reader over lent bytes: those that are left, the place of the first of them, and the phase.
+/// A reader over lent bytes: those that are left, the place of the first of them, and the phase.
 #[derive(Clone, Copy)]
 pub struct Reader<'a> {
     pub(crate) rest: &'a [u8],

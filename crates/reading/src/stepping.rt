@@ -17,7 +17,7 @@ use leaves::{Entry, Heading};
 use rows::{Fault, Refusal, Row};
 
 impl<'a> Reader<'a> {
-    // A reader before the first of the bytes.
+    /// A reader before the first of the bytes.
     pub fn new(bytes: &'a [u8]) -> Reader<'a>
         ensures bytes { result.rest.now ≡ bytes.now }
         ensures phase { result.phase ≡ Phase.Opening }
@@ -29,22 +29,22 @@ impl<'a> Reader<'a> {
         }
     }
 
-    // Where the next entry begins.
+    /// Where the next entry begins.
     pub fn place(&self) -> u32
         ensures { result ≡ place_of self.now.phase }
     {
         self.place
     }
 
-    // How far the leaf has been read.
+    /// How far the leaf has been read.
     pub fn phase(&self) -> Phase
         ensures { result ≡ self.now.phase }
     {
         self.phase
     }
 
-    // The next entry; none after the end. The phase and the kind of the entry decide together what
-    // is read and where the reader goes from there. A refusal leaves the reader as it was.
+    /// The next entry; none after the end. The phase and the kind of the entry decide together what
+    /// is read and where the reader goes from there. A refusal leaves the reader as it was.
     pub fn next(&mut self) -> Result<Option<Entry>, Fault>
         ensures stepped { Stepped self.old.phase self.old.rest.now result self.new.phase self.new.rest.now }
         ensures refused { OnErr result (self.new ≡ self.old) }

@@ -23,8 +23,8 @@ fn read_all(bytes: &[u8]) -> Result<(Heading, u8), Fault>
     }
 }
 
-// The leaf that the bytes are: its heading, and the runs of its rows and findings as parts of the
-// bytes. Every string of bytes has exactly one answer.
+/// The leaf that the bytes are: its heading, and the runs of its rows and findings as parts of the
+/// bytes. Every string of bytes has exactly one answer.
 pub fn read(bytes: &[u8]) -> Result<Leaf<'_>, Fault>
     ensures fits { (a : Answer Contents) × Fits bytes.now a × Reads result a }
     ensures only { (a : Answer Contents) → Fits bytes.now a → Reads result a }

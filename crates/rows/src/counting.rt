@@ -6,13 +6,13 @@ ghost use Rattle.rows.specs.Counting.{on_frame, window, steps, Jobs};
 
 use crate::tasks::{Numbers, Row};
 
-// The last instant that anything is asked about; no period and no frame is longer.
+/// The last instant that anything is asked about; no period and no frame is longer.
 pub const HORIZON: u32 = 16_777_216;
 
-// A table has at most this many rows.
+/// A table has at most this many rows.
 pub const MOST_ROWS: usize = 32;
 
-// Whether a number is a frame: from 1 to the horizon.
+/// Whether a number is a frame: from 1 to the horizon.
 pub fn is_frame(frame: u32) -> bool
     ensures { result ≡ is_frame frame }
 {
@@ -20,7 +20,7 @@ pub fn is_frame(frame: u32) -> bool
 }
 
 impl Row {
-    // The four numbers of the row.
+    /// The four numbers of the row.
     pub fn numbers(&self) -> Numbers
         ensures { result ≡ plain self.now }
     {
@@ -32,21 +32,21 @@ impl Row {
         }
     }
 
-    // The deadline less the jitter: the time left once the task is ready.
+    /// The deadline less the jitter: the time left once the task is ready.
     pub fn window(&self) -> u32
         ensures { result ≡ window self.now }
     {
         self.deadline - self.jitter
     }
 
-    // Whether the period divides the frame.
+    /// Whether the period divides the frame.
     pub fn stands_on(&self, frame: u32) -> bool
         ensures { result ≡ on_frame frame self.now }
     {
         frame % self.period == 0
     }
 
-    // The exact steps at an instant: work × ceiling((at + jitter) / period).
+    /// The exact steps at an instant: work × ceiling((at + jitter) / period).
     pub fn steps(&self, at: u32) -> u64
         ensures value { result ≡ steps self.now at }
         ensures jobs { Jobs self.now at result }

@@ -8,7 +8,7 @@ use crate::refusals::{Fault, Refusal};
 use crate::tasks::{Numbers, Row};
 
 impl Numbers {
-    // The row of these four numbers. A refusal tells the position that the caller hands in.
+    /// The row of these four numbers. A refusal tells the position that the caller hands in.
     pub fn judge(&self, at: u32) -> Result<Row, Fault>
         ensures { answer plain result ≡ checked (flaw_checks row_flaws self.now at) self.now }
     {
@@ -32,7 +32,7 @@ impl Numbers {
         })
     }
 
-    // The row of these four numbers on a frame, which its period has to divide.
+    /// The row of these four numbers on a frame, which its period has to divide.
     pub fn judge_on(&self, frame: u32, at: u32) -> Result<Row, Fault>
         ensures { answer plain result ≡ checked (flaw_checks (frame_flaws frame) self.now at) self.now }
     {

@@ -10,7 +10,7 @@ ghost use Rattle.std.specs.Ordering.{on};
 use std::error::Error;
 use std::fmt;
 
-// The refusals, each with the number by which it is known.
+/// The refusals, each with the number by which it is known.
 #[derive(Clone, Copy, Debug)]
 pub enum Refusal {
     BadFrame = 1,
@@ -35,7 +35,7 @@ pub enum Refusal {
     UnknownBound = 20,
 }
 
-// A refusal with the position that it tells: a rank, the offset of a byte, or 0 where none is told.
+/// A refusal with the position that it tells: a rank, the offset of a byte, or 0 where none is told.
 #[derive(Clone, Copy, PartialEq, Eq, Debug)]
 pub struct Fault {
     pub refusal: Refusal,
@@ -43,7 +43,7 @@ pub struct Fault {
 }
 
 impl Refusal {
-    // The fault of this refusal that tells a position.
+    /// The fault of this refusal that tells a position.
     pub fn at(self, position: u32) -> Fault
         ensures { result ≡ record { refusal = self; at = position } }
     {
@@ -53,14 +53,14 @@ impl Refusal {
         }
     }
 
-    // The number by which the refusal is known.
+    /// The number by which the refusal is known.
     pub fn number(&self) -> u8
         ensures { result ≡ number self.now }
     {
         *self as u8
     }
 
-    // The words by which the refusal is known.
+    /// The words by which the refusal is known.
     pub fn words(&self) -> &'static str
         ensures { result.now ≡ words self.now }
     {

@@ -2,7 +2,7 @@
 ghost use Rattle.std.specs.Prelude.{◌+◌, ◌≤◌};
 ghost use Rattle.rows.specs.Times.{horizon};
 
-// Four plain numbers that nobody has judged: work, deadline, period and jitter of a task to be.
+/// Four plain numbers that nobody has judged: work, deadline, period and jitter of a task to be.
 #[derive(Clone, Copy, PartialEq, Eq, Debug)]
 pub struct Numbers {
     pub work: u32,
@@ -11,9 +11,9 @@ pub struct Numbers {
     pub jitter: u32,
 }
 
-// A row of a table: a sporadic task that passed judgement. Its work is its worst-case execution
-// time, its deadline is counted from release, its period is the least gap between two releases,
-// and its jitter the longest wait from release to readiness. Rank 1 is the highest priority.
+/// A row of a table: a sporadic task that passed judgement. Its work is its worst-case execution
+/// time, its deadline is counted from release, its period is the least gap between two releases,
+/// and its jitter the longest wait from release to readiness. Rank 1 is the highest priority.
 #[derive(Clone, Copy, PartialEq, Eq, Debug)]
 pub struct Row {
     pub work: u32,

@@ -12,8 +12,8 @@ use bounds::Bound;
 use findings::{Finding, check_size, recount};
 use rows::{Fault, MOST_ROWS, Numbers, Row};
 
-// Judges every place of a table and puts the findings of its rows into the list, in rank order;
-// the places past the last row stay. Answers how many there are. A refusal leaves the list.
+/// Judges every place of a table and puts the findings of its rows into the list, in rank order;
+/// the places past the last row stay. Answers how many there are. A refusal leaves the list.
 pub fn survey<B: Bound>(
     bound: &B,
     frame: u32,

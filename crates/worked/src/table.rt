@@ -4,10 +4,10 @@ ghost use Rattle.worked.specs.Table.{Worked, row_a, row_b, row_e};
 
 use rows::Row;
 
-// The frame of the worked table.
+/// The frame of the worked table.
 pub const FRAME: u32 = 12;
 
-// The rows of the worked table in rank order. What is found about them is proved once, by hand.
+/// The rows of the worked table in rank order. What is found about them is proved once, by hand.
 pub fn worked_rows() -> [Row; 3]
     ensures rows { result ≡ row_a ∷ row_b ∷ row_e ∷ [] }
     ensures worked { Worked }
