@@ -16,12 +16,12 @@ use rows::{Fault, HORIZON, Refusal, Row};
 /// fill `accuracy` batches: rounding up then adds at most one part in `accuracy`.
 #[derive(Clone, Copy, PartialEq, Eq, Debug)]
 pub struct Batches {
-    accuracy: u32,
-    size: u32,
-    ghost low: { 1 ≤ accuracy },
-    ghost high: { accuracy ≤ finest },
-    ghost some: { 1 ≤ size },
-    ghost near: { size ≤ horizon },
+    pub accuracy: u32,
+    pub size: u32,
+    pub ghost low: { 1 ≤ accuracy },
+    pub ghost high: { accuracy ≤ finest },
+    pub ghost some: { 1 ≤ size },
+    pub ghost near: { size ≤ horizon },
 }
 
 // The most jobs of the row that can ask for work from the moment that it is ready to the instant.

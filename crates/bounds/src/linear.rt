@@ -12,9 +12,9 @@ use rows::{Fault, HORIZON, Refusal, Row};
 /// The linear tail of an accuracy from 1 to 64: the larger, the closer to the steps.
 #[derive(Clone, Copy, PartialEq, Eq, Debug)]
 pub struct LinearTail {
-    accuracy: u32,
-    ghost low: { 1 ≤ accuracy },
-    ghost high: { accuracy ≤ finest },
+    pub accuracy: u32,
+    pub ghost low: { 1 ≤ accuracy },
+    pub ghost high: { accuracy ≤ finest },
 }
 
 impl LinearTail {

@@ -1,4 +1,5 @@
 pub mod Phases
+pub mod Readers
 pub mod Fields
 pub mod Kinds
 pub mod Stepping

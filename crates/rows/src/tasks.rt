@@ -20,8 +20,8 @@ pub struct Row {
     pub deadline: u32,
     pub period: u32,
     pub jitter: u32,
-    ghost busy: { 1 ≤ work },
-    ghost roomy: { work + jitter ≤ deadline },
-    ghost timely: { deadline ≤ period },
-    ghost near: { period ≤ horizon },
+    pub ghost busy: { 1 ≤ work },
+    pub ghost roomy: { work + jitter ≤ deadline },
+    pub ghost timely: { deadline ≤ period },
+    pub ghost near: { period ≤ horizon },
 }
