@@ -49,9 +49,7 @@ pub fn find<B: Bound>(bound: &B, frame: u32, row: &Row, above: &[Row]) -> Result
     ensures found { answer tells result
         ≡ checked (checks frame row.now above.now)
         (row_finding (B.meaning bound.now) frame row.now above.now) }
-    ensures says {
-        IfOk result (λ f. RowSays (B.meaning bound.now) frame row.now above.now (tells f))
-    }
+    ensures says { IfOk result (λ f. RowSays (B.meaning bound.now) frame row.now above.now (tells f)) }
 {
     check(frame, row, above)?;
     Ok(Load::new(bound, frame, row.work, above).search(row.window()))

@@ -69,9 +69,7 @@ pub fn recount<B: Bound>(
     from: usize,
     list: &mut [Finding],
 ) -> Result<(), Fault>
-    ensures answered {
-        answer (λ u. u) result ≡ checked (table_checks frame rows.now (length list.old)) tt
-    }
+    ensures answered { answer (λ u. u) result ≡ checked (table_checks frame rows.now (length list.old)) tt }
     ensures filled { MatchResult result (λ _. map tells list.new
         ≡ written (map tells list.old) from
         (drop from (findings_of (B.meaning bound.now) frame rows.now)))
