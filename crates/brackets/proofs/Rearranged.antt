@@ -1,6 +1,6 @@
 -- The order of the rows above does not matter.
 use Rattle.std.proofs.Common.{◌≡◌, ℕ, ◌+◌, ◌*◌, Bool, ◌&&◌, ◌||◌, eqb, ltb, leb, unwrap_or, sym, ap, ap₂}
-use mathlib.Core.Path.{fun_ext}
+use Rattle.std.proofs.Math.Path.{fun_ext}
 use Rattle.std.proofs.lemmas.List.Sorted.{sum_by-IsPermutation, list_any-IsPermutation}
 use Rattle.rows.specs.Counting.{window}
 use Rattle.bounds.specs.Instants.{least, count}

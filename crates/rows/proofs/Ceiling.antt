@@ -1,7 +1,7 @@
 -- The quotient rounded up: the least number of b's that cover a.
-use Rattle.std.proofs.Common.{◌≡◌, ℕ, ◌+◌, ◌-◌, ◌*◌, ◌/◌, ◌%◌, ◌<◌, ◌≤◌, min, sym, ap, ◌∙◌, ⊎_elim, lt_of_mul-lt-mul_right, arith}
+use Rattle.std.proofs.Common.{◌≡◌, ℕ, ◌+◌, ◌-◌, ◌*◌, ◌/◌, ◌%◌, ◌<◌, ◌≤◌, min, sym, ap, ◌∙◌, lt_of_mul-lt-mul_right, arith}
 use Rattle.std.proofs.lemmas.Nat.{div-mul-add, div-add-mod', mod_below}
-use Rattle.std.proofs.lemmas.Bool.{cases_lt}
+use Rattle.std.proofs.lemmas.Grind.{div_ceil_times}
 use Rattle.rows.specs.declared.tasks.Row.{Row}
 use Rattle.rows.specs.Times.{ceiling}
 use Rattle.rows.specs.Counting.{steps, Jobs}
@@ -27,12 +27,7 @@ ceiling_grows a c b some order =
 
 -- the quotient, and one more where something is left over
 pub ceiling_by_quotient : (a b : ℕ) → 0 < b → a / b + min 1 (a % b) ≡ ceiling a b
-ceiling_by_quotient a b some =
-    let split = div-add-mod' a b in
-    let low = mod_below a b some in
-    ⊎_elim (λ none. let e : min 1 (a % b) ≡ 0 = omega arith in rw e (sym (ceiling_is a b (a / b + 0) some (omega arith) (omega arith))))
-    (λ more. let e : min 1 (a % b) ≡ 1 = omega arith in rw e (sym (ceiling_is a b (a / b + 1) some (omega arith) (omega arith))))
-    (cases_lt (a % b) 1)
+ceiling_by_quotient a b some = let bounds = div_ceil_times a b some in sym (ceiling_is a b (a / b + min 1 (a % b)) some bounds.0 bounds.1)
 
 -- the steps of a row are the work of as many jobs as it takes periods to cover the time
 pub steps_jobs : (r : Row) (t s : ℕ) → s ≡ steps r t → Jobs r t s

@@ -1,9 +1,9 @@
 -- A row is known by its four numbers.
 use Rattle.std.proofs.Common.{◌≡◌, ◌+◌, ◌≤◌, List, [], ◌∷◌, map, Some, refl, ◌∙◌, ap₂}
 use mathlib.Core.HLevel.{is_prop→PathP}
-use mathlib.Core.Logic.{dif_pos}
-use native.Mathlib.Decide.{dec_le}
-use native.Mathlib.Bridge.{le_prop}
+use Rattle.std.proofs.Math.Logic.{dif_pos}
+use Rattle.std.proofs.Math.Decide.{dec_le}
+use Rattle.std.proofs.Math.Bridge.{le_prop}
 use Rattle.std.specs.List.{cons_option}
 use Rattle.rows.specs.declared.tasks.Row.{Row}
 use Rattle.rows.specs.Times.{horizon}

@@ -1,9 +1,6 @@
 -- The corners of the linear tail: the rises before the tail begins.
 use Rattle.std.specs.Prelude.{◌≡◌, ℕ, zero, suc, ◌+◌, ◌-◌, ◌*◌, ◌<◌, ◌≤◌, Bool, true, false, cond}
-use Rattle.std.proofs.Math.Path.{refl}
-use Rattle.std.proofs.Common.{sym, ⊎_elim}
-use Rattle.std.proofs.Math.Nat.{lt_of_mul-lt-mul_right}
-use native.Mathlib.Omega.{arith}
+use Rattle.std.proofs.Common.{sym, refl, ⊎_elim, lt_of_mul-lt-mul_right, arith}
 use Rattle.std.proofs.lemmas.Nat.{mul-le}
 use Rattle.std.proofs.lemmas.Bool.{and_parts, and_left, and_right, and_from, and_cases, leb-true, leb-false, le-leb, lt-leb, cases_lt, both_ways}
 use Rattle.rows.specs.declared.tasks.Row.{Row}

@@ -1,5 +1,5 @@
 use Rattle.std.proofs.Common.{◌≡◌, ◌-◌, ◌≤◌, map, length, drop}
-use lib.Seq.{paste}
+use Rattle.std.proofs.Math.Seq.{paste}
 use Rattle.rows.specs.Lists.{StaysOutside}
 use Rattle.findings.specs.Findings.{tells}
 use Rattle.findings.specs.Tables.{findings_of}
