@@ -3,8 +3,8 @@ use Rattle.std.specs.Prelude.{ℕ, ◌+◌, ◌*◌, Bool, cond, not, ◌&&◌, 
 use Rattle.rows.specs.declared.tasks.Row.{Row}
 use Rattle.rows.specs.Answers.{Check, check}
 use Rattle.rows.specs.Times.{horizon, ceiling}
+use Rattle.rows.specs.Counting.{is_rise}
 use Rattle.bounds.specs.Meaning.{Meaning, is_accuracy}
-use Rattle.bounds.specs.Supplied.{rises}
 
 -- how many jobs are counted for n jobs, at accuracy k and in batches of g: n itself below k × g,
 -- and from there on n rounded up to whole batches
@@ -19,7 +19,7 @@ job_count r t = ceiling (t + r.jitter) r.period
 abbrev pub batches : ℕ → ℕ → Meaning
 batches k g = record {
   amount = λ h r t. h * (r.work * counted k g (job_count r t));
-  corner = rises;
+  is_corner = is_rise;
   accuracy = k;
   most = horizon;
 }

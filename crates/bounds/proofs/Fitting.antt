@@ -5,7 +5,7 @@ use Rattle.std.proofs.lemmas.Bool.{cases_lt}
 use Rattle.rows.specs.declared.tasks.Row.{Row}
 use Rattle.rows.specs.Counting.{steps}
 use Rattle.bounds.specs.Laws.{Laws}
-use Rattle.bounds.specs.Meaning.{Meaning, asked}
+use Rattle.bounds.specs.Meaning.{Meaning, is_asked}
 use Rattle.bounds.specs.Lemmas.Asking.{most_parts, asked_tells, steps_fit}
 
 -- the largest amount that any bound can have: twice what the exact steps can have
@@ -20,11 +20,11 @@ at_most_twice k f x some close small =
     (cases_lt (2 * x) f)
 
 -- no amount that is asked for is larger
-pub amount_small : {m : Meaning} → Laws m → (h : ℕ) (r : Row) (t : ℕ) → asked h r t ≡ true → m.amount h r t ≤ largest
+pub amount_small : {m : Meaning} → Laws m → (h : ℕ) (r : Row) (t : ℕ) → is_asked h r t ≡ true → m.amount h r t ≤ largest
 amount_small {m} laws h r t ask =
     let known = asked_tells h r t ask in
     at_most_twice m.accuracy (m.amount h r t) (h * steps r t) laws.some_accuracy (laws.close h r t ask) (steps_fit h r t known.frame known.near)
 
 -- so every one fits 64 bits
-pub amount_fits : {m : Meaning} → Laws m → (h : ℕ) (r : Row) (t : ℕ) → asked h r t ≡ true → m.amount h r t < 2 ^ 64
+pub amount_fits : {m : Meaning} → Laws m → (h : ℕ) (r : Row) (t : ℕ) → is_asked h r t ≡ true → m.amount h r t < 2 ^ 64
 amount_fits laws h r t ask = omega (arith, amount_small laws h r t ask)

@@ -1,8 +1,8 @@
 -- What the laws of the supplied bounds are proved from. The source answers the laws, and it may cite
 -- what stands in specs alone: so these proofs stand here, below the definitions.
 pub mod Instants
-pub mod Rising
 pub mod Asking
 pub mod Corners
 pub mod ExactLaws
 pub mod LinearLaws
+pub mod SuppliedLaws

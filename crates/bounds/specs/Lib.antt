@@ -3,4 +3,5 @@ pub mod Meaning
 pub mod Answering
 pub mod Laws
 pub mod Supplied
+pub mod Values
 pub mod Lemmas

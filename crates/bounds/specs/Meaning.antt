@@ -2,14 +2,14 @@
 use Rattle.std.specs.Prelude.{ℕ, Bool, ◌&&◌, nat_le}
 use Rattle.rows.specs.declared.tasks.Row.{Row}
 use Rattle.rows.specs.Times.{horizon, is_frame}
-use Rattle.rows.specs.Counting.{on_frame}
+use Rattle.rows.specs.Counting.{is_on_frame}
 
 -- a bound on the demand of rows
 pub record Meaning : Type 0 where
   -- at a frame, the most that a row can demand up to an instant, in parts
   pub amount : ℕ → Row → ℕ → ℕ
   -- the corners of a row: the instants at which its amount may bend upward
-  pub corner : Row → ℕ → Bool
+  pub is_corner : Row → ℕ → Bool
   -- the accuracy k: the amount is at most (k + 1) / k times the exact steps
   pub accuracy : ℕ
   -- no row has more corners than this up to the horizon
@@ -24,5 +24,5 @@ abbrev pub is_accuracy : ℕ → Bool
 is_accuracy k = nat_le 1 k && nat_le k finest
 
 -- a bound has something to answer: the frame is one, the row stands on it, and the instant is not past the horizon
-abbrev pub asked : ℕ → Row → ℕ → Bool
-asked h r t = is_frame h && on_frame h r && nat_le t horizon
+abbrev pub is_asked : ℕ → Row → ℕ → Bool
+is_asked h r t = is_frame h && is_on_frame h r && nat_le t horizon

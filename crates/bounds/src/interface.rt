@@ -1,6 +1,6 @@
 // What every bound answers, and the laws that it shows.
 ghost use Rattle.std.specs.Prelude.{◌≡◌};
-ghost use Rattle.bounds.specs.Meaning.{Meaning, asked};
+ghost use Rattle.bounds.specs.Meaning.{Meaning, is_asked};
 ghost use Rattle.bounds.specs.Answering.{amount_answered, corner_answered};
 ghost use Rattle.bounds.specs.Laws.{Laws};
 
@@ -36,7 +36,7 @@ pub trait Bound {
 /// Whether a bound has something to answer: the frame is one, the row stands on it, and the
 /// instant is not past the horizon.
 pub fn asked(frame: u32, row: &Row, at: u32) -> bool
-    ensures { result ≡ asked frame row.now at }
+    ensures { result ≡ is_asked frame row.now at }
 {
     is_frame(frame) && row.stands_on(frame) && at <= HORIZON
 }

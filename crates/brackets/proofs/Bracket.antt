@@ -7,17 +7,17 @@ use Rattle.std.proofs.lemmas.List.Sums.{sum_by-append, sum_by-cons}
 use Rattle.std.proofs.lemmas.Bool.{le-leb, leb-true}
 use Rattle.rows.specs.declared.tasks.Row.{Row}
 use Rattle.rows.specs.Times.{horizon}
-use Rattle.rows.specs.Counting.{on_frame, steps, window}
+use Rattle.rows.specs.Counting.{is_on_frame, steps, window}
 use Rattle.bounds.specs.Laws.{Laws}
-use Rattle.bounds.specs.Meaning.{Meaning, asked}
+use Rattle.bounds.specs.Meaning.{Meaning, is_asked}
 use Rattle.bounds.specs.Supplied.{exact_steps}
 use Rattle.findings.specs.Demand.{load, demand, rests}
-use Rattle.findings.specs.Exact.{exact_demand, exact_rests, exact_rest}
+use Rattle.findings.specs.Exact.{exact_demand, is_exact_rest, exact_rest}
 use Rattle.findings.specs.Findings.{first_rest}
-use Rattle.findings.proofs.Amounts.{is_asked, frame_low}
+use Rattle.findings.proofs.Amounts.{asked_on_frame, frame_low}
 use Rattle.findings.proofs.FixedPoint.{sum_scaled, leb_scaled, rests_exactly}
-use Rattle.findings.specs.Fitting.{Stands}
-use Rattle.brackets.specs.Bracketing.{slow_rests, slow_rest, Brackets, FewerAbove}
+use Rattle.findings.specs.Fitting.{StandOn}
+use Rattle.brackets.specs.Bracketing.{is_slow_rest, slow_rest, Brackets, FewerIsNoLater}
 use Rattle.brackets.proofs.Earlier.{no_later, none_later}
 
 -- a sum of smaller amounts is smaller
@@ -37,12 +37,12 @@ pub window_near : (r : Row) (t : ℕ) → t ≤ window r → t ≤ horizon
 window_near r t within = omega (arith, r.timely, r.near)
 
 -- what holds of every row that a bound is asked about holds of the rows above
-pub all_asked : (h : ℕ) (above : List Row) (t : ℕ) → Stands h above → t ≤ horizon → (P : Row → Type 0) → ((s : Row) → asked h s t ≡ true → P s) → All P above
-all_asked h above t stands near P holds = All-weaker (λ s. on_frame h s ≡ true) P (λ s on. holds s (is_asked h s t stands.frame on near)) above stands.on
+pub all_asked : (h : ℕ) (above : List Row) (t : ℕ) → StandOn h above → t ≤ horizon → (P : Row → Type 0) → ((s : Row) → is_asked h s t ≡ true → P s) → All P above
+all_asked h above t stands near P holds = All-weaker (λ s. is_on_frame h s ≡ true) P (λ s on. holds s (asked_on_frame h s t stands.frame on near)) above stands.on
 
-module _ {m : Meaning} (laws : Laws m) (h : ℕ) (r : Row) (above : List Row) (stands : Stands h above) (t : ℕ) (near : t ≤ horizon) where
+module _ {m : Meaning} (laws : Laws m) (h : ℕ) (r : Row) (above : List Row) (stands : StandOn h above) (t : ℕ) (near : t ≤ horizon) where
   -- a rest by the bound is a rest in exact steps
-  exact_from_bound : rests (load m h r.work above) t ≡ true → exact_rests r above t ≡ true
+  exact_from_bound : rests (load m h r.work above) t ≡ true → is_exact_rest r above t ≡ true
   exact_from_bound rest =
       let covers = all_asked h above t stands near (λ s. h * steps s t ≤ m.amount h s t) (λ s. laws.covers h s t) in
       sym (rests_exactly h r above (frame_low h stands.frame) t) ∙ rests_by_less exact_steps m h r.work above t covers rest
@@ -56,7 +56,7 @@ module _ {m : Meaning} (laws : Laws m) (h : ℕ) (r : Row) (above : List Row) (s
       omega (arith, sum_scaled k (λ s. m.amount h s t) above, sum_scaled ((k + 1) * h) (λ s. steps s t) above)
 
   -- a rest in exact steps at speed k / (k + 1) is a rest by the bound
-  bound_from_slow : slow_rests m.accuracy r above t ≡ true → rests (load m h r.work above) t ≡ true
+  bound_from_slow : is_slow_rest m.accuracy r above t ≡ true → rests (load m h r.work above) t ≡ true
   bound_from_slow rest =
       let k = m.accuracy in
       let served = mul-le h ((k + 1) * exact_demand r above t) h (k * t) (omega arith) (leb-true ((k + 1) * exact_demand r above t) (k * t) rest) in
@@ -68,15 +68,15 @@ pub brackets : {m : Meaning} → Laws m → Brackets m
 unfolding first_rest exact_rest slow_rest
 brackets {m} laws h r above stands =
     let rest = rests (load m h r.work above) in
-    let slow = no_later rest (slow_rests m.accuracy r above) (window r) (λ t _ within. bound_from_slow laws h r above stands t (window_near r t within)) in
+    let slow = no_later rest (is_slow_rest m.accuracy r above) (window r) (λ t _ within. bound_from_slow laws h r above stands t (window_near r t within)) in
     record {
-      exact = no_later (exact_rests r above) rest (window r) (λ t _ within. exact_from_bound laws h r above stands t (window_near r t within));
+      exact = no_later (is_exact_rest r above) rest (window r) (λ t _ within. exact_from_bound laws h r above stands t (window_near r t within));
       slow = slow;
       misses = none_later _ _ slow;
     }
 
 -- with a row above taken away, a row rests where it did
-pub fewer_above : (m : Meaning) → FewerAbove m
+pub fewer_above : (m : Meaning) → FewerIsNoLater m
 unfolding first_rest
 fewer_above m h r x xs ys =
     no_later (rests (load m h r.work (xs ++ ys))) (rests (load m h r.work (xs ++ x ∷ ys))) (window r)

@@ -6,14 +6,15 @@ use Rattle.rows.proofs.Checks.{given_is, gives_any}
 use Rattle.bounds.specs.Laws.{Laws}
 use Rattle.bounds.specs.Meaning.{Meaning}
 use Rattle.bounds.specs.Supplied.{exact_steps}
-use Rattle.findings.specs.declared.verdicts.Finding.{Finding}
+use Rattle.verdicts.specs.declared.verdicts.Finding.{Finding}
 use Rattle.findings.specs.Asking.{checks}
 use Rattle.findings.specs.Exact.{exact_rest}
-use Rattle.findings.specs.Findings.{Found, told, tells, row_finding}
+use Rattle.verdicts.specs.Found.{Found, verdict_rest, tells}
+use Rattle.findings.specs.Findings.{row_finding}
 use Rattle.findings.proofs.Amounts.{frame_low}
 use Rattle.findings.proofs.FixedPoint.{exact_rest_is}
 use Rattle.brackets.specs.declared.counting.Counts.{Counts}
-use Rattle.brackets.specs.Bracketing.{Between}
+use Rattle.brackets.specs.Bracketing.{LiesBetween}
 use Rattle.brackets.specs.Counting.{Counted, both, row_counted}
 use Rattle.brackets.proofs.Bracket.{brackets}
 use Rattle.brackets.proofs.Passing.{stands}
@@ -27,11 +28,11 @@ module _ (h : ℕ) (r : Row) (above : List Row) where
       ap gives (ap₂ pair (given_is (checks h r above) _ _ exact) (given_is (checks h r above) _ _ bounded)) ∙ gives_any (checks h r above) _ _ exact (row_counted m h r above)
 
   -- the finding in exact steps tells the first rest with no frame
-  pub exactly : (f : Finding) → gives (tells f) ≡ checked (checks h r above) (row_finding exact_steps h r above) → told f.verdict ≡ exact_rest r above
+  pub exactly : (f : Finding) → gives (tells f) ≡ checked (checks h r above) (row_finding exact_steps h r above) → verdict_rest f.verdict ≡ exact_rest r above
   exactly f found = ap (λ x. x.rest) (given_is (checks h r above) _ _ found) ∙ exact_rest_is h r above (frame_low h (stands h r above _ _ found).frame)
 
   -- and that by a lawful bound lies between it and the one at the lower speed
-  pub between : {m : Meaning} → Laws m → (f : Finding) → gives (tells f) ≡ checked (checks h r above) (row_finding m h r above) → Between m.accuracy r above (told f.verdict)
+  pub between : {m : Meaning} → Laws m → (f : Finding) → gives (tells f) ≡ checked (checks h r above) (row_finding m h r above) → LiesBetween m.accuracy r above (verdict_rest f.verdict)
   between {m} laws f found =
       let is = ap (λ x. x.rest) (given_is (checks h r above) _ _ found) in
-      subst (Between m.accuracy r above) (sym is) (brackets laws h r above (stands h r above _ _ found))
+      subst (LiesBetween m.accuracy r above) (sym is) (brackets laws h r above (stands h r above _ _ found))

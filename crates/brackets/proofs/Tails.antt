@@ -4,18 +4,18 @@ use Rattle.std.proofs.lemmas.Nat.{mul-le}
 use Rattle.std.proofs.lemmas.Bool.{cond_both, le-leb, leb-true}
 use Rattle.rows.specs.declared.tasks.Row.{Row}
 use Rattle.rows.specs.Counting.{steps, window}
-use Rattle.bounds.specs.Supplied.{before_tail, linear_tail}
+use Rattle.bounds.specs.Supplied.{is_before_tail, linear_tail}
 use Rattle.bounds.specs.Lemmas.Asking.{asked_tells}
 use Rattle.bounds.specs.Lemmas.LinearLaws.{line, below_line}
 use Rattle.findings.specs.Demand.{load, rests}
 use Rattle.findings.specs.Findings.{first_rest}
-use Rattle.brackets.specs.Bracketing.{FinerTails}
+use Rattle.brackets.specs.Bracketing.{FinerIsNoLater}
 use Rattle.brackets.proofs.Earlier.{no_later}
 use Rattle.brackets.proofs.Bracket.{all_asked, rests_by_less, window_near}
 
 module _ (k k' : ℕ) (order : k ≤ k') (h : ℕ) (r : Row) (t : ℕ) where
   -- a more accurate tail begins no earlier
-  begins_later : before_tail k r t ≡ true → before_tail k' r t ≡ true
+  begins_later : is_before_tail k r t ≡ true → is_before_tail k' r t ≡ true
   begins_later before =
       let begin = mul-le (k - 1) r.period (k' - 1) r.period (omega arith) (omega arith) in
       le-leb (t + r.jitter) ((k' - 1) * r.period) (omega (arith, leb-true (t + r.jitter) ((k - 1) * r.period) before))
@@ -23,14 +23,14 @@ module _ (k k' : ℕ) (order : k ≤ k') (h : ℕ) (r : Row) (t : ℕ) where
   -- so its amount is nowhere larger
   finer_amount : h / r.period * r.period ≡ h → (linear_tail k').amount h r t ≤ (linear_tail k).amount h r t
   finer_amount whole =
-      cond_both (before_tail k r t) (h * steps r t) (line h r t) (λ x. (linear_tail k').amount h r t ≤ x)
+      cond_both (is_before_tail k r t) (h * steps r t) (line h r t) (λ x. (linear_tail k').amount h r t ≤ x)
       (λ before. rw (begins_later before) (omega arith)) (λ _. below_line k' h r t whole)
 
 -- and what rests by a tail rests by every more accurate one
-pub finer_tails : FinerTails
+pub finer_tails : FinerIsNoLater
 unfolding first_rest
 finer_tails k k' h r above _ order stands =
     no_later (rests (load (linear_tail k') h r.work above)) (rests (load (linear_tail k) h r.work above)) (window r)
     (λ t _ within.
-    let finer = all_asked h above t stands (window_near r t within) (λ s. (linear_tail k').amount h s t ≤ (linear_tail k).amount h s t) (λ s ask. finer_amount k k' order h s t (asked_tells h s t ask).whole) in
+    let finer = all_asked h above t stands (window_near r t within) (λ s. (linear_tail k').amount h s t ≤ (linear_tail k).amount h s t) (λ s ask. finer_amount k k' order h s t (asked_tells h s t ask).divides) in
     rests_by_less (linear_tail k') (linear_tail k) h r.work above t finer)

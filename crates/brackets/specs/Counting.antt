@@ -3,7 +3,8 @@ use Rattle.std.specs.Prelude.{◌≡◌, ℕ, ◌-◌, ◌≤◌, Bool, false, L
 use Rattle.rows.specs.declared.tasks.Row.{Row}
 use Rattle.bounds.specs.Meaning.{Meaning, finest}
 use Rattle.bounds.specs.Supplied.{exact_steps, linear_tail}
-use Rattle.findings.specs.Findings.{Found, tells, row_finding}
+use Rattle.verdicts.specs.Found.{Found, tells}
+use Rattle.findings.specs.Findings.{row_finding}
 use Rattle.brackets.specs.declared.counting.Counts.{Counts}
 
 -- two findings about a row in numbers: in exact steps and by a bound
@@ -26,10 +27,10 @@ gap (Some a) None = None
 gap None b = None
 
 -- the row meets by the linear tail of accuracy k
-abbrev pub meets_by : ℕ → Row → List Row → ℕ → Bool
-meets_by h r above k = is_some (row_finding (linear_tail k) h r above).rest
+abbrev pub has_rest_by : ℕ → Row → List Row → ℕ → Bool
+has_rest_by h r above k = is_some (row_finding (linear_tail k) h r above).rest
 
 -- of all accuracies the row meets by those that are not below a; without an a, by none
 abbrev pub MeetsFrom : ℕ → Row → List Row → Option ℕ → Type 0
-MeetsFrom h r above (Some a) = (k : ℕ) → 1 ≤ k → k ≤ finest → meets_by h r above k ≡ nat_le a k
-MeetsFrom h r above None = (k : ℕ) → 1 ≤ k → k ≤ finest → meets_by h r above k ≡ false
+MeetsFrom h r above (Some a) = (k : ℕ) → 1 ≤ k → k ≤ finest → has_rest_by h r above k ≡ nat_le a k
+MeetsFrom h r above None = (k : ℕ) → 1 ≤ k → k ≤ finest → has_rest_by h r above k ≡ false

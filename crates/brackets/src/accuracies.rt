@@ -4,8 +4,8 @@ ghost use Rattle.rows.specs.Answers.{answer, checked};
 ghost use Rattle.bounds.specs.Instants.{least};
 ghost use Rattle.bounds.specs.Meaning.{finest};
 ghost use Rattle.findings.specs.Asking.{checks};
-ghost use Rattle.brackets.specs.Bracketing.{FinerTails};
-ghost use Rattle.brackets.specs.Counting.{meets_by, MeetsFrom};
+ghost use Rattle.brackets.specs.Bracketing.{FinerIsNoLater};
+ghost use Rattle.brackets.specs.Counting.{has_rest_by, MeetsFrom};
 
 use bounds::{FINEST, LinearTail};
 use findings::{Verdict, find};
@@ -15,9 +15,9 @@ use rows::{Fault, Row};
 pub fn least_accuracy(frame: u32, row: &Row, above: &[Row]) -> Result<Option<u32>, Fault>
     ensures least { answer (λ o. o) result
         ≡ checked (checks frame row.now above.now)
-        (least (meets_by frame row.now above.now) finest 1) }
+        (least (has_rest_by frame row.now above.now) finest 1) }
     ensures from { IfOk result (λ o. MeetsFrom frame row.now above.now o) }
-    ensures finer { FinerTails }
+    ensures finer { FinerIsNoLater }
 {
     for accuracy in 1..=FINEST {
         let tail = LinearTail::new(accuracy)?;

@@ -3,8 +3,8 @@ ghost use Rattle.std.specs.Prelude.{◌≡◌, IfOk};
 ghost use Rattle.rows.specs.Answers.{answer, checked};
 ghost use Rattle.findings.specs.Asking.{checks};
 ghost use Rattle.findings.specs.Exact.{exact_rest};
-ghost use Rattle.findings.specs.Findings.{told};
-ghost use Rattle.brackets.specs.Bracketing.{AnyOrder, Between, Brackets, FewerAbove};
+ghost use Rattle.verdicts.specs.Found.{verdict_rest};
+ghost use Rattle.brackets.specs.Bracketing.{OrderIsFree, LiesBetween, Brackets, FewerIsNoLater};
 ghost use Rattle.brackets.specs.Counting.{both, gap, row_counted};
 
 use bounds::{Bound, ExactSteps};
@@ -21,7 +21,7 @@ pub struct Counts {
 impl Counts {
     /// How much later the row rests by the bound than in exact steps, where it meets by both.
     pub fn gap(&self) -> Option<u32>
-        ensures { result ≡ gap (told self.now.exact.verdict) (told self.now.bounded.verdict) }
+        ensures { result ≡ gap (verdict_rest self.now.exact.verdict) (verdict_rest self.now.bounded.verdict) }
     {
         match (self.exact.verdict, self.bounded.verdict) {
             (Verdict::Meets(exact), Verdict::Meets(bounded)) => Some(bounded.saturating_sub(exact)),
@@ -40,12 +40,12 @@ pub fn count_both<B: Bound>(
     ensures counted { answer both result
         ≡ checked (checks frame row.now above.now)
         (row_counted (B.meaning bound.now) frame row.now above.now) }
-    ensures exactly { IfOk result (λ c. told c.exact.verdict ≡ exact_rest row.now above.now) }
+    ensures exactly { IfOk result (λ c. verdict_rest c.exact.verdict ≡ exact_rest row.now above.now) }
     ensures between { IfOk result
-        (λ c. Between (B.meaning bound.now).accuracy row.now above.now (told c.bounded.verdict)) }
+        (λ c. LiesBetween (B.meaning bound.now).accuracy row.now above.now (verdict_rest c.bounded.verdict)) }
     ensures brackets { Brackets (B.meaning bound.now) }
-    ensures fewer { FewerAbove (B.meaning bound.now) }
-    ensures order { AnyOrder (B.meaning bound.now) }
+    ensures fewer { FewerIsNoLater (B.meaning bound.now) }
+    ensures order { OrderIsFree (B.meaning bound.now) }
 {
     let exact = find(&ExactSteps, frame, row, above)?;
     let bounded = find(bound, frame, row, above)?;

@@ -7,20 +7,20 @@ use Rattle.std.proofs.lemmas.List.Sums.{sum_by-cons, sum_by-le}
 use Rattle.std.proofs.lemmas.Bool.{and_from, and_parts, cond-true, le-leb, leb-true, leb-false, lt-leb, or_parts}
 use Rattle.rows.specs.declared.tasks.Row.{Row}
 use Rattle.rows.specs.Times.{horizon, is_frame}
-use Rattle.rows.specs.Counting.{on_frame}
+use Rattle.rows.specs.Counting.{is_on_frame}
 use Rattle.bounds.specs.Laws.{Laws}
-use Rattle.bounds.specs.Meaning.{Meaning, asked}
+use Rattle.bounds.specs.Meaning.{Meaning, is_asked}
 use Rattle.bounds.specs.Answering.{amount_answered}
 use Rattle.bounds.proofs.Fitting.{largest, amount_small}
 use Rattle.findings.specs.Asking.{most_above}
 use Rattle.findings.specs.Demand.{Load, demand, rests}
-use Rattle.findings.specs.Points.{bend}
-use Rattle.findings.specs.Fitting.{Stands, OnceThenOn}
+use Rattle.findings.specs.Points.{is_bend}
+use Rattle.findings.specs.Fitting.{StandOn, OnceThenOn}
 use Rattle.findings.proofs.Turning.{on_from}
 
 -- a row on the frame, at an instant up to the horizon, is one that a bound is asked about
-pub is_asked : (h : ℕ) (r : Row) (t : ℕ) → is_frame h ≡ true → on_frame h r ≡ true → t ≤ horizon → asked h r t ≡ true
-is_asked h r t frame on near = and_from _ _ (and_from _ _ frame on) (le-leb t horizon near)
+pub asked_on_frame : (h : ℕ) (r : Row) (t : ℕ) → is_frame h ≡ true → is_on_frame h r ≡ true → t ≤ horizon → is_asked h r t ≡ true
+asked_on_frame h r t frame on near = and_from _ _ (and_from _ _ frame on) (le-leb t horizon near)
 
 -- a frame runs from 1 to the horizon
 pub frame_low : (h : ℕ) → is_frame h ≡ true → 1 ≤ h
@@ -31,32 +31,32 @@ frame_high h frame = leb-true h horizon (and_parts _ _ frame).1
 
 module _ {m : Meaning} (laws : Laws m) where
   -- a sum of amounts is at most as many times the largest
-  sum_small : (h : ℕ) (rs : List Row) (t : ℕ) → is_frame h ≡ true → AllPass (on_frame h) rs → t ≤ horizon → sum_by (λ r. m.amount h r t) rs ≤ length rs * largest
+  sum_small : (h : ℕ) (rs : List Row) (t : ℕ) → is_frame h ≡ true → AllPass (is_on_frame h) rs → t ≤ horizon → sum_by (λ r. m.amount h r t) rs ≤ length rs * largest
   sum_small h rs t frame on near =
-      sum_by-le (λ r. m.amount h r t) largest rs (All-weaker (λ r. on_frame h r ≡ true) (λ r. m.amount h r t ≤ largest) (λ r o. amount_small laws h r t (is_asked h r t frame o near)) rs on)
+      sum_by-le (λ r. m.amount h r t) largest rs (All-weaker (λ r. is_on_frame h r ≡ true) (λ r. m.amount h r t ≤ largest) (λ r o. amount_small laws h r t (asked_on_frame h r t frame o near)) rs on)
 
   -- a sum does not bend upward where none of its amounts has a corner
-  sum_bends : (h : ℕ) (rs : List Row) (t : ℕ) → is_frame h ≡ true → AllPass (on_frame h) rs → suc t < horizon → list_any (λ r. m.corner r (suc t)) rs ≡ false
+  sum_bends : (h : ℕ) (rs : List Row) (t : ℕ) → is_frame h ≡ true → AllPass (is_on_frame h) rs → suc t < horizon → list_any (λ r. m.is_corner r (suc t)) rs ≡ false
       → sum_by (λ r. m.amount h r t) rs + sum_by (λ r. m.amount h r (suc (suc t))) rs ≤ 2 * sum_by (λ r. m.amount h r (suc t)) rs
   sum_bends h [] t frame on near none = omega arith
   sum_bends h (r ∷ rs) t frame on near none =
-      let parts = or_parts (m.corner r (suc t)) (list_any (λ r. m.corner r (suc t)) rs) none in
-      let here = laws.bends h r (suc t) (is_asked h r (suc t) frame (All-head (λ s. on_frame h s ≡ true) r rs on) (omega arith)) (omega arith) near parts.0 in
+      let parts = or_parts (m.is_corner r (suc t)) (list_any (λ r. m.is_corner r (suc t)) rs) none in
+      let here = laws.bends h r (suc t) (asked_on_frame h r (suc t) frame (All-head (λ s. is_on_frame h s ≡ true) r rs on) (omega arith)) (omega arith) near parts.0 in
       let e : suc t - 1 ≡ t = omega arith in
       let e' : suc t + 1 ≡ suc (suc t) = omega arith in
       let low = ap (m.amount h r) e in
       let high = ap (m.amount h r) e' in
       rw (sum_by-cons (λ r. m.amount h r t) r rs, sum_by-cons (λ r. m.amount h r (suc t)) r rs, sum_by-cons (λ r. m.amount h r (suc (suc t))) r rs)
-      (omega (arith, sum_bends h rs t frame (All-tail (λ s. on_frame h s ≡ true) r rs on) near parts.1))
+      (omega (arith, sum_bends h rs t frame (All-tail (λ s. is_on_frame h s ≡ true) r rs on) near parts.1))
 
 -- what a bound answers about rows on the frame are the amounts of its meaning
-pub sum_answered : (m : Meaning) (h : ℕ) (rs : List Row) (t : ℕ) → is_frame h ≡ true → AllPass (on_frame h) rs → t ≤ horizon → sum_by (λ r. amount_answered m h r t) rs ≡ sum_by (λ r. m.amount h r t) rs
+pub sum_answered : (m : Meaning) (h : ℕ) (rs : List Row) (t : ℕ) → is_frame h ≡ true → AllPass (is_on_frame h) rs → t ≤ horizon → sum_by (λ r. amount_answered m h r t) rs ≡ sum_by (λ r. m.amount h r t) rs
 sum_answered m h [] t frame on near = refl
 sum_answered m h (r ∷ rs) t frame on near =
-    let here = cond-true (asked h r t) (m.amount h r t) 0 (is_asked h r t frame (All-head (λ s. on_frame h s ≡ true) r rs on) near) in
-    rw (sum_by-cons (λ s. amount_answered m h s t) r rs, sum_by-cons (λ s. m.amount h s t) r rs) (ap₂ (λ x y. x + y) here (sum_answered m h rs t frame (All-tail (λ s. on_frame h s ≡ true) r rs on) near))
+    let here = cond-true (is_asked h r t) (m.amount h r t) 0 (asked_on_frame h r t frame (All-head (λ s. is_on_frame h s ≡ true) r rs on) near) in
+    rw (sum_by-cons (λ s. amount_answered m h s t) r rs, sum_by-cons (λ s. m.amount h s t) r rs) (ap₂ (λ x y. x + y) here (sum_answered m h rs t frame (All-tail (λ s. is_on_frame h s ≡ true) r rs on) near))
 
-module _ (l : Load) (laws : Laws l.bound) (stands : Stands l.frame l.above) where
+module _ (l : Load) (laws : Laws l.bound) (stands : StandOn l.frame l.above) where
   -- the demand fits 64 bits with room to spare
   pub demand_small : (t : ℕ) → length l.above ≤ most_above → t ≤ horizon → l.own < 2 ^ 32 → demand l t < 2 ^ 63
   demand_small t few near fits =
@@ -72,7 +72,7 @@ module _ (l : Load) (laws : Laws l.bound) (stands : Stands l.frame l.above) wher
       lt-leb (demand l 0) (l.frame * 0) (omega arith)
 
   -- once the row rests between p and q, it rests from there to q, where no row above has a corner between them
-  pub rests_on : (p q : ℕ) → q ≤ horizon → rests l p ≡ false → ((t : ℕ) → p < t → t < q → bend l.bound l.above t ≡ false) → OnceThenOn (rests l) p q
+  pub rests_on : (p q : ℕ) → q ≤ horizon → rests l p ≡ false → ((t : ℕ) → p < t → t < q → is_bend l.bound l.above t ≡ false) → OnceThenOn (rests l) p q
   rests_on p q near late straight i j after low high rest =
       let e : i + (j - i) ≡ j = omega arith in
       let on =

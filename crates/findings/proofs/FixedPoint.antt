@@ -7,13 +7,14 @@ use Rattle.std.proofs.lemmas.List.Sums.{sum_by-cons}
 use Rattle.std.proofs.lemmas.Bool.{cases_lt, le-leb, leb-false, leb-true, lt-leb}
 use Rattle.rows.specs.declared.tasks.Row.{Row}
 use Rattle.rows.specs.Counting.{window, steps}
-use Rattle.bounds.specs.Instants.{least, First}
+use Rattle.bounds.specs.Instants.{least, IsFirst}
 use Rattle.bounds.specs.Supplied.{exact_steps}
 use Rattle.bounds.specs.Lemmas.Instants.{least_up_to}
-use Rattle.bounds.specs.Lemmas.Rising.{steps_grow}
+use Rattle.rows.proofs.Rising.{steps_grow}
 use Rattle.findings.specs.Demand.{load, rests}
-use Rattle.findings.specs.Exact.{exact_demand, exact_rests, exact_rest, response, LeastFixedPoint, Responds}
-use Rattle.findings.specs.Findings.{Found, first_rest, finding, row_finding}
+use Rattle.findings.specs.Exact.{exact_demand, is_exact_rest, exact_rest, response, IsLeastFixedPoint, Responds}
+use Rattle.verdicts.specs.Found.{Found}
+use Rattle.findings.specs.Findings.{first_rest, finding, row_finding}
 
 -- a factor goes before a sum
 pub sum_scaled : {X : Type 0} (h : ℕ) (f : X → ℕ) (xs : List X) → sum_by (λ x. h * f x) xs ≡ h * sum_by f xs
@@ -34,7 +35,7 @@ found_at_window h r above f last e found = found ∙ ap (finding (load exact_ste
 
 module _ (h : ℕ) (r : Row) (above : List Row) (some : 1 ≤ h) where
   -- by exact steps a row rests where it does with no frame
-  pub rests_exactly : (t : ℕ) → rests (load exact_steps h r.work above) t ≡ exact_rests r above t
+  pub rests_exactly : (t : ℕ) → rests (load exact_steps h r.work above) t ≡ is_exact_rest r above t
   rests_exactly t =
       let whole : h * r.work + sum_by (λ s. h * steps s t) above ≡ h * exact_demand r above t = omega (arith, sum_scaled h (λ s. steps s t) above) in
       ap (λ n. leb n (h * t)) whole ∙ leb_scaled h (exact_demand r above t) t some
@@ -59,12 +60,12 @@ module _ (r : Row) (above : List Row) where
       sums (x ∷ xs) = rw (sum_by-cons (λ y. steps y s) x xs, sum_by-cons (λ y. steps y t) x xs) (omega (arith, steps_grow x s t order, sums xs))
 
   -- before the first rest the demand is not served
-  unserved : (t i : ℕ) → First (exact_rests r above) 0 (window r) t → i < t → i < exact_demand r above i
+  unserved : (t i : ℕ) → IsFirst (is_exact_rest r above) 0 (window r) t → i < t → i < exact_demand r above i
   unserved t zero first early = omega arith
   unserved t (suc i) first early = leb-false (exact_demand r above (suc i)) (suc i) (first.none (suc i) (omega arith) early)
 
   -- the first rest in exact steps is the least fixed point
-  least_fixed : (t : ℕ) → First (exact_rests r above) 0 (window r) t → LeastFixedPoint r above t
+  least_fixed : (t : ℕ) → IsFirst (is_exact_rest r above) 0 (window r) t → IsLeastFixedPoint r above t
   least_fixed zero first = absurd (let z : ⊥ = omega (arith, first.after) in z)
   least_fixed (suc t) first =
       let served = leb-true (exact_demand r above (suc t)) (suc t) first.holds in
@@ -76,8 +77,8 @@ module _ (r : Row) (above : List Row) where
 
   pub responds : Responds r above (response r above)
   unfolding exact_rest response
-  responds = at (least (exact_rests r above) (window r) 1) (least_up_to (exact_rests r above) (window r))
+  responds = at (least (is_exact_rest r above) (window r) 1) (least_up_to (is_exact_rest r above) (window r))
     where
-      at : (o : Option ℕ) → MatchOption o ((i : ℕ) → 1 ≤ i → i ≤ window r → exact_rests r above i ≡ false) (First (exact_rests r above) 0 (window r)) → Responds r above (option_map (λ t. t + r.jitter) o)
+      at : (o : Option ℕ) → MatchOption o ((i : ℕ) → 1 ≤ i → i ≤ window r → is_exact_rest r above i ≡ false) (IsFirst (is_exact_rest r above) 0 (window r)) → Responds r above (option_map (λ t. t + r.jitter) o)
       at None none = λ t low high fixed. omega (arith, leb-false (exact_demand r above t) t (none t low high))
       at (Some t) first = (t, least_fixed t first, refl, omega (arith, first.within))

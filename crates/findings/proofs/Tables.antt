@@ -7,14 +7,15 @@ use Rattle.std.proofs.lemmas.List.Elements.{All-take}
 use Rattle.std.proofs.lemmas.List.{append_assoc, append-nil, get_or-drop, get_or-set_other, take_at}
 use Rattle.std.proofs.lemmas.Bool.{cases_lt}
 use Rattle.rows.specs.declared.tasks.Row.{Row}
-use Rattle.rows.specs.Counting.{on_frame, window}
+use Rattle.rows.specs.Counting.{is_on_frame, window}
 use Rattle.rows.specs.Lists.{written, StaysOutside}
 use Rattle.bounds.specs.Laws.{Laws}
 use Rattle.bounds.specs.Meaning.{Meaning}
 use Rattle.findings.specs.Demand.{load}
-use Rattle.findings.specs.Findings.{Found, finding, row_finding}
+use Rattle.verdicts.specs.Found.{Found}
+use Rattle.findings.specs.Findings.{finding, row_finding}
 use Rattle.findings.specs.Tables.{findings_below, findings_of, TableSays}
-use Rattle.findings.specs.Fitting.{Stands}
+use Rattle.findings.specs.Fitting.{StandOn}
 use Rattle.findings.proofs.Walk.{finding_says}
 
 module _ (m : Meaning) (h : ℕ) where
@@ -40,10 +41,10 @@ counted_at m h rows from i r f last late within read at-window found =
     ∙ sym (finding_below_at m h [] rows i f r within) ∙ ap (λ n. get_or (findings_of m h rows) n f) (sym place) ∙ sym (get_or-drop from (findings_of m h rows) (i - from) f)
 
 -- of every row of a table that stands on a frame the finding says what a finding says
-pub table_says : (m : Meaning) (h : ℕ) (rows : List Row) → Laws m → Stands h rows → TableSays m h rows
+pub table_says : (m : Meaning) (h : ℕ) (rows : List Row) → Laws m → StandOn h rows → TableSays m h rows
 table_says m h rows laws stands xs ys r split =
     let front = ap (take (length xs)) split ∙ take_at xs (r ∷ ys) (length xs) refl in
-    let on = subst (AllPass (on_frame h)) front (All-take (λ s. on_frame h s ≡ true) (length xs) rows stands.on) in
+    let on = subst (AllPass (is_on_frame h)) front (All-take (λ s. is_on_frame h s ≡ true) (length xs) rows stands.on) in
     finding_says (load m h r.work xs) (window r) laws (record { frame = stands.frame; on = on }) r.busy (omega arith)
 
 -- new elements put into a list from a place on, one after another

@@ -2,13 +2,13 @@
 use Rattle.std.proofs.Common.{◌≡◌, ℕ, zero, suc, ◌+◌, ◌-◌, ◌<◌, ◌≤◌, true, false, ◌&&◌, eqb, ltb, Some, None, Option, unwrap_or, sym, refl, ap, ◌∙◌, subst, ⊎_elim, arith, MatchOption}
 use Rattle.std.proofs.lemmas.Bool.{and_from, and_left, and_parts, and_right, both_ways, cases_lt, eq-eqb, lt-ltb, or_left, or_parts, and_cases}
 use Rattle.rows.specs.Times.{horizon}
-use Rattle.bounds.specs.Instants.{least, count, First}
+use Rattle.bounds.specs.Instants.{least, count, IsFirst}
 use Rattle.bounds.specs.Laws.{Laws}
 use Rattle.bounds.specs.Lemmas.Instants.{least_after, least_some, least_none, least_up_to, count_first}
 use Rattle.findings.specs.Demand.{Load, rests}
-use Rattle.findings.specs.Points.{bend}
-use Rattle.findings.specs.Findings.{first_rest, tested, accepts, stop, points, finding, Says}
-use Rattle.findings.specs.Fitting.{Stands, OnceThenOn}
+use Rattle.findings.specs.Points.{is_bend}
+use Rattle.findings.specs.Findings.{first_rest, is_tested, is_resting_point, stop, points, finding, Says}
+use Rattle.findings.specs.Fitting.{StandOn, OnceThenOn}
 use Rattle.findings.proofs.Turning.{not_before}
 use Rattle.findings.proofs.Amounts.{no_rest_at_start, rests_on}
 
@@ -16,16 +16,16 @@ use Rattle.findings.proofs.Amounts.{no_rest_at_start, rests_on}
 pub record Passed (l : Load) (last before seen : ℕ) : Type 0 where
   pub within : before ≤ last
   pub none : (i : ℕ) → i ≤ before → rests l i ≡ false
-  pub counted : seen ≡ count (tested l last) before
+  pub counted : seen ≡ count (is_tested l last) before
 
 -- an instant before last that is no test point is no corner
-no_bend : (l : Load) (last t : ℕ) → t < last → tested l last t ≡ false → bend l.bound l.above t ≡ false
+no_bend : (l : Load) (last t : ℕ) → t < last → is_tested l last t ≡ false → is_bend l.bound l.above t ≡ false
 no_bend l last t before none =
-    let inner = (or_parts (eqb t last) (ltb t last && bend l.bound l.above t) none).1 in
-    ⊎_elim (λ (z : ltb t last ≡ false). absurd (both_ways (ltb t last) z (lt-ltb t last before))) (λ e. e) (and_cases (ltb t last) (bend l.bound l.above t) inner)
+    let inner = (or_parts (eqb t last) (ltb t last && is_bend l.bound l.above t) none).1 in
+    ⊎_elim (λ (z : ltb t last ≡ false). absurd (both_ways (ltb t last) z (lt-ltb t last before))) (λ e. e) (and_cases (ltb t last) (is_bend l.bound l.above t) inner)
 
 -- the walk begins at 0, with no point seen
-pub start : (l : Load) (last : ℕ) → Laws l.bound → Stands l.frame l.above → 1 ≤ l.own → Passed l last 0 0
+pub start : (l : Load) (last : ℕ) → Laws l.bound → StandOn l.frame l.above → 1 ≤ l.own → Passed l last 0 0
 unfolding count
 start l last laws stands busy = record {
   within = omega arith;
@@ -38,18 +38,18 @@ up_to_and_after : {P : Type 0} (b i : ℕ) → (i ≤ b → P) → (b < i → P)
 up_to_and_after b i old new = ⊎_elim new old (cases_lt b i)
 
 -- the next test point is one point more
-one_point_more : (l : Load) (last before seen point : ℕ) → Passed l last before seen → First (tested l last) before last point → seen + 1 ≡ count (tested l last) point
-one_point_more l last before seen point passed next = ap (λ n. n + 1) passed.counted ∙ sym (count_first (tested l last) before last point next)
+one_point_more : (l : Load) (last before seen point : ℕ) → Passed l last before seen → IsFirst (is_tested l last) before last point → seen + 1 ≡ count (is_tested l last) point
+one_point_more l last before seen point passed next = ap (λ n. n + 1) passed.counted ∙ sym (count_first (is_tested l last) before last point next)
 
-module _ (l : Load) (last : ℕ) (laws : Laws l.bound) (stands : Stands l.frame l.above) (near : last ≤ horizon) where
+module _ (l : Load) (last : ℕ) (laws : Laws l.bound) (stands : StandOn l.frame l.above) (near : last ≤ horizon) where
   -- between the instant passed and the next test point a row that rests goes on resting
-  pub turns_once : (before seen point : ℕ) → Passed l last before seen → First (tested l last) before last point → OnceThenOn (rests l) before point
+  pub turns_once : (before seen point : ℕ) → Passed l last before seen → IsFirst (is_tested l last) before last point → OnceThenOn (rests l) before point
   turns_once before seen point passed next =
       rests_on l laws stands before point (omega (arith, next.within)) (passed.none before (omega arith))
       (λ t after early. no_bend l last t (omega (arith, next.within)) (next.none t after early))
 
   -- a test point at which the row does not rest is passed
-  pub pass : (before seen point : ℕ) → Passed l last before seen → First (tested l last) before last point → rests l point ≡ false → Passed l last point (seen + 1)
+  pub pass : (before seen point : ℕ) → Passed l last before seen → IsFirst (is_tested l last) before last point → rests l point ≡ false → Passed l last point (seen + 1)
   pass before seen point passed next late =
       let once = turns_once before seen point passed next in
       record {
@@ -59,10 +59,10 @@ module _ (l : Load) (last : ℕ) (laws : Laws l.bound) (stands : Stands l.frame 
       }
 
 -- a test point is a rest, and the first rest after the instant passed is found
-module _ (l : Load) (last before seen point rest : ℕ) (passed : Passed l last before seen) (next : First (tested l last) before last point)
-    (served : rests l point ≡ true) (first : First (rests l) before point rest) where
+module _ (l : Load) (last before seen point rest : ℕ) (passed : Passed l last before seen) (next : IsFirst (is_tested l last) before last point)
+    (served : rests l point ≡ true) (first : IsFirst (rests l) before point rest) where
   -- the first rest after the instant passed is the first of all
-  first_of_all : First (rests l) 0 last rest
+  first_of_all : IsFirst (rests l) 0 last rest
   first_of_all = record {
     after = omega (arith, first.after);
     within = omega (arith, first.within, next.within);
@@ -71,13 +71,13 @@ module _ (l : Load) (last before seen point rest : ℕ) (passed : Passed l last 
   }
 
   -- testing stops at the test point
-  stops_here : First (accepts l last) 0 last point
+  stops_here : IsFirst (is_resting_point l last) 0 last point
   stops_here = record {
     after = omega (arith, next.after);
     within = next.within;
-    holds = and_from (tested l last point) (rests l point) next.holds served;
+    holds = and_from (is_tested l last point) (rests l point) next.holds served;
     none = λ i low early.
-        up_to_and_after before i (λ old. and_right (tested l last i) (rests l i) (passed.none i old)) (λ new. and_left (tested l last i) (rests l i) (next.none i new early));
+        up_to_and_after before i (λ old. and_right (is_tested l last i) (rests l i) (passed.none i old)) (λ new. and_left (is_tested l last i) (rests l i) (next.none i new early));
   }
 
   -- so the finding is the first rest with the points so far and this one
@@ -85,8 +85,8 @@ module _ (l : Load) (last before seen point rest : ℕ) (passed : Passed l last 
   unfolding first_rest stop points
   meets =
       let at_rest = least_some (rests l) last 0 last rest first_of_all (omega (arith, first_of_all.within)) in
-      let at-stop = least_some (accepts l last) last 0 last point stops_here (omega (arith, next.within)) in
-      let same = one_point_more l last before seen point passed next ∙ ap (λ o. count (tested l last) (unwrap_or o last)) (sym at-stop) in
+      let at-stop = least_some (is_resting_point l last) last 0 last point stops_here (omega (arith, next.within)) in
+      let same = one_point_more l last before seen point passed next ∙ ap (λ o. count (is_tested l last) (unwrap_or o last)) (sym at-stop) in
       λ i. record { rest = sym at_rest i; points = same i }
 
 -- the last instant is passed
@@ -96,37 +96,37 @@ module _ (l : Load) (last seen : ℕ) (passed : Passed l last last seen) where
   unfolding first_rest stop points
   misses =
       let at_rest = least_none (rests l) last 0 (λ i low high. passed.none i (omega arith)) in
-      let at-stop = least_none (accepts l last) last 0 (λ i low high. and_right (tested l last i) (rests l i) (passed.none i (omega arith))) in
-      let same = passed.counted ∙ ap (λ o. count (tested l last) (unwrap_or o last)) (sym at-stop) in
+      let at-stop = least_none (is_resting_point l last) last 0 (λ i low high. and_right (is_tested l last i) (rests l i) (passed.none i (omega arith))) in
+      let same = passed.counted ∙ ap (λ o. count (is_tested l last) (unwrap_or o last)) (sym at-stop) in
       λ i. record { rest = sym at_rest i; points = same i }
 
 -- what a finding says holds of the finding that is defined
-module _ (l : Load) (last : ℕ) (laws : Laws l.bound) (stands : Stands l.frame l.above) (busy : 1 ≤ l.own) (near : last ≤ horizon) where
+module _ (l : Load) (last : ℕ) (laws : Laws l.bound) (stands : StandOn l.frame l.above) (busy : 1 ≤ l.own) (near : last ≤ horizon) where
   -- after every instant before the last there is a next test point
-  next_test : (n : ℕ) → n < last → (q : ℕ) × First (tested l last) n last q
-  next_test n before = at (least (tested l last) (last - n) (n + 1)) (least_after (tested l last) (last - n) n)
+  next_test : (n : ℕ) → n < last → (q : ℕ) × IsFirst (is_tested l last) n last q
+  next_test n before = at (least (is_tested l last) (last - n) (n + 1)) (least_after (is_tested l last) (last - n) n)
     where
-      at : (o : Option ℕ) → MatchOption o ((i : ℕ) → n < i → i ≤ n + (last - n) → tested l last i ≡ false) (First (tested l last) n (n + (last - n))) → (q : ℕ) × First (tested l last) n last q
-      at None none = absurd (both_ways (tested l last last) (none last before (omega arith)) (or_left (eqb last last) _ (eq-eqb last last refl)))
-      at (Some q) first = let e : n + (last - n) ≡ last = omega arith in (q, subst (λ e. First (tested l last) n e q) e first)
+      at : (o : Option ℕ) → MatchOption o ((i : ℕ) → n < i → i ≤ n + (last - n) → is_tested l last i ≡ false) (IsFirst (is_tested l last) n (n + (last - n))) → (q : ℕ) × IsFirst (is_tested l last) n last q
+      at None none = absurd (both_ways (is_tested l last last) (none last before (omega arith)) (or_left (eqb last last) _ (eq-eqb last last refl)))
+      at (Some q) first = let e : n + (last - n) ≡ last = omega arith in (q, subst (λ e. IsFirst (is_tested l last) n e q) e first)
 
   -- where no test point is a rest, no instant is
-  no_rest : ((i : ℕ) → 1 ≤ i → i ≤ last → accepts l last i ≡ false) → (n : ℕ) → n ≤ last → (i : ℕ) → i ≤ n → rests l i ≡ false
+  no_rest : ((i : ℕ) → 1 ≤ i → i ≤ last → is_resting_point l last i ≡ false) → (n : ℕ) → n ≤ last → (i : ℕ) → i ≤ n → rests l i ≡ false
   no_rest none zero within i low = (start l last laws stands busy).none i low
   no_rest none (suc n) within i low =
       let (q, next) = next_test n within in
-      let late : rests l q ≡ false = ⊎_elim (λ (z : tested l last q ≡ false). absurd (both_ways (tested l last q) z next.holds)) (λ e. e)
-      (and_cases (tested l last q) (rests l q) (none q (omega (arith, next.after)) next.within)) in
-      let passed : Passed l last n (count (tested l last) n) = record { within = omega arith; none = no_rest none n (omega arith); counted = refl } in
+      let late : rests l q ≡ false = ⊎_elim (λ (z : is_tested l last q ≡ false). absurd (both_ways (is_tested l last q) z next.holds)) (λ e. e)
+      (and_cases (is_tested l last q) (rests l q) (none q (omega (arith, next.after)) next.within)) in
+      let passed : Passed l last n (count (is_tested l last) n) = record { within = omega arith; none = no_rest none n (omega arith); counted = refl } in
       (pass l last laws stands near n _ q passed next late).none i (omega (arith, next.after))
 
   pub finding_says : Says l last (finding l last)
   unfolding first_rest stop points
-  finding_says = at (least (accepts l last) last 1) (least (rests l) last 1) (least_up_to (accepts l last) last) (least_up_to (rests l) last)
+  finding_says = at (least (is_resting_point l last) last 1) (least (rests l) last 1) (least_up_to (is_resting_point l last) last) (least_up_to (rests l) last)
     where
-      at : (s t : Option ℕ) → MatchOption s ((i : ℕ) → 1 ≤ i → i ≤ last → accepts l last i ≡ false) (First (accepts l last) 0 last)
-          → MatchOption t ((i : ℕ) → 1 ≤ i → i ≤ last → rests l i ≡ false) (First (rests l) 0 last) → Says l last (record { rest = t; points = count (tested l last) (unwrap_or s last) })
+      at : (s t : Option ℕ) → MatchOption s ((i : ℕ) → 1 ≤ i → i ≤ last → is_resting_point l last i ≡ false) (IsFirst (is_resting_point l last) 0 last)
+          → MatchOption t ((i : ℕ) → 1 ≤ i → i ≤ last → rests l i ≡ false) (IsFirst (rests l) 0 last) → Says l last (record { rest = t; points = count (is_tested l last) (unwrap_or s last) })
       at None None _ none = record { rest = none; points = refl }
       at None (Some t) none first = absurd (both_ways (rests l t) (no_rest none last (omega arith) t first.within) first.holds)
-      at (Some s) None first none = absurd (both_ways (rests l s) (none s first.after first.within) (and_parts (tested l last s) (rests l s) first.holds).1)
+      at (Some s) None first none = absurd (both_ways (rests l s) (none s first.after first.within) (and_parts (is_tested l last s) (rests l s) first.holds).1)
       at (Some s) (Some t) stops first = record { rest = first; points = (s, stops, refl) }

@@ -10,19 +10,19 @@ abbrev pub exact_demand : Row → List Row → ℕ → ℕ
 exact_demand r above t = r.work + sum_by (λ s. steps s t) above
 
 -- the row rests at t in exact steps
-abbrev pub exact_rests : Row → List Row → ℕ → Bool
-exact_rests r above t = nat_le (exact_demand r above t) t
+abbrev pub is_exact_rest : Row → List Row → ℕ → Bool
+is_exact_rest r above t = nat_le (exact_demand r above t) t
 
 -- the first rest in exact steps: the least instant from 1 to the window at which the row rests, whatever the frame
 unfoldable pub exact_rest : Row → List Row → Option ℕ
-exact_rest r above = least (exact_rests r above) (window r) 1
+exact_rest r above = least (is_exact_rest r above) (window r) 1
 
 -- the response time: the first rest in exact steps, plus the jitter
 unfoldable pub response : Row → List Row → Option ℕ
 response r above = option_map (λ t. t + r.jitter) (exact_rest r above)
 
 -- t is the least instant from 1 on at which the exact demand is t itself
-pub record LeastFixedPoint (r : Row) (above : List Row) (t : ℕ) : Type 0 where
+pub record IsLeastFixedPoint (r : Row) (above : List Row) (t : ℕ) : Type 0 where
   pub starts : 1 ≤ t
   pub fixed : exact_demand r above t ≡ t
   pub least : (s : ℕ) → 1 ≤ s → exact_demand r above s ≡ s → t ≤ s
@@ -32,4 +32,4 @@ pub record LeastFixedPoint (r : Row) (above : List Row) (t : ℕ) : Type 0 where
 abbrev pub Responds : Row → List Row → Option ℕ → Type 0
 Responds r above o =
     MatchOption o ((t : ℕ) → 1 ≤ t → t ≤ window r → exact_demand r above t ≢ t)
-    (λ w. (t : ℕ) × LeastFixedPoint r above t × (w ≡ t + r.jitter) × (w ≤ r.deadline))
+    (λ w. (t : ℕ) × IsLeastFixedPoint r above t × (w ≡ t + r.jitter) × (w ≤ r.deadline))

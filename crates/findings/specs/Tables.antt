@@ -2,7 +2,8 @@
 use Rattle.std.specs.Prelude.{◌≡◌, ℕ, List, [], ◌∷◌, ◌++◌}
 use Rattle.rows.specs.declared.tasks.Row.{Row}
 use Rattle.bounds.specs.Meaning.{Meaning}
-use Rattle.findings.specs.Findings.{Found, row_finding, RowSays}
+use Rattle.verdicts.specs.Found.{Found}
+use Rattle.findings.specs.Findings.{row_finding, RowSays}
 
 -- the findings of rows that stand in rank order below others: each row's, below those and the rows before it
 abbrev pub findings_below : Meaning → ℕ → List Row → List Row → List Found

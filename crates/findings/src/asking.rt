@@ -4,7 +4,8 @@ ghost use Rattle.std.specs.Option.{option_map};
 ghost use Rattle.rows.specs.Answers.{answer, checked};
 ghost use Rattle.bounds.specs.Supplied.{exact_steps};
 ghost use Rattle.findings.specs.Asking.{checks, most_above, standing};
-ghost use Rattle.findings.specs.Findings.{tells, row_finding, RowSays};
+ghost use Rattle.verdicts.specs.Found.{tells};
+ghost use Rattle.findings.specs.Findings.{row_finding, RowSays};
 ghost use Rattle.findings.specs.Exact.{response, Responds};
 ghost use Rattle.findings.specs.Fitting.{Fit};
 

@@ -1,10 +1,10 @@
 // The demand of a load at an instant, and the next instant to test.
 ghost use Rattle.std.specs.Prelude.{◌≡◌, ◌^◌, ◌<◌, ◌≤◌};
 ghost use Rattle.rows.specs.Times.{horizon};
-ghost use Rattle.bounds.specs.Instants.{First};
+ghost use Rattle.bounds.specs.Instants.{IsFirst};
 ghost use Rattle.findings.specs.Asking.{most_above};
 ghost use Rattle.findings.specs.Demand.{load, rests};
-ghost use Rattle.findings.specs.Findings.{tested};
+ghost use Rattle.findings.specs.Findings.{is_tested};
 ghost use Rattle.findings.specs.Fitting.{Fit};
 ghost use Rattle.findings.specs.Loads.{amounts_answered, load_of, nearest_answered};
 
@@ -60,7 +60,7 @@ impl<'a, B: Bound> Load<'a, B> {
     pub(crate) fn next_point(&self, after: u32, last: u32) -> u32
         requires before { after < last }
         requires near { last ≤ horizon }
-        ensures { First (tested (load_of self.now) last) after last result }
+        ensures { IsFirst (is_tested (load_of self.now) last) after last result }
     {
         self.nearest(after, last)
     }

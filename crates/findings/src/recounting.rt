@@ -4,9 +4,9 @@ ghost use Rattle.rows.specs.Answers.{answer, checked};
 ghost use Rattle.rows.specs.Lists.{written, StaysOutside};
 ghost use Rattle.rows.specs.Times.{most_rows};
 ghost use Rattle.findings.specs.Asking.{size_checks, table_checks};
-ghost use Rattle.findings.specs.Findings.{tells};
+ghost use Rattle.verdicts.specs.Found.{tells};
 ghost use Rattle.findings.specs.Tables.{findings_of, TableSays};
-ghost use Rattle.findings.specs.Fitting.{Fit, Sized};
+ghost use Rattle.findings.specs.Fitting.{Fit, HasPlaces};
 
 use crate::asking::standing;
 use crate::loads::Load;
@@ -17,7 +17,7 @@ use rows::{Fault, MOST_ROWS, Refusal, Row, is_frame};
 /// Whether a table of so many rows on the frame can be counted into a list of so many places.
 pub fn check_size(frame: u32, rows: usize, places: usize) -> Result<(), Fault>
     ensures checked { answer (λ u. u) result ≡ checked (size_checks frame rows places) tt }
-    ensures sized { OnOk result (Sized frame rows places) }
+    ensures sized { OnOk result (HasPlaces frame rows places) }
 {
     if !is_frame(frame) {
         return Err(Refusal::BadFrame.at(0));

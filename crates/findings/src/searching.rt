@@ -1,9 +1,10 @@
 // The search for the first rest: one text for every bound.
 ghost use Rattle.std.specs.Prelude.{◌≡◌, ◌<◌, ◌≤◌, true};
 ghost use Rattle.rows.specs.Times.{horizon};
-ghost use Rattle.bounds.specs.Instants.{First};
+ghost use Rattle.bounds.specs.Instants.{IsFirst};
 ghost use Rattle.findings.specs.Demand.{rests};
-ghost use Rattle.findings.specs.Findings.{tells, finding, Says};
+ghost use Rattle.verdicts.specs.Found.{tells};
+ghost use Rattle.findings.specs.Findings.{finding, Says};
 ghost use Rattle.findings.specs.Fitting.{OnceThenOn};
 ghost use Rattle.findings.specs.Loads.{load_of};
 
@@ -19,7 +20,7 @@ impl<'a, B: Bound> Load<'a, B> {
         requires near { high ≤ horizon }
         requires rests { rests (load_of self.now) high ≡ true }
         requires on { OnceThenOn (rests (load_of self.now)) low high }
-        ensures { First (rests (load_of self.now)) low high result }
+        ensures { IsFirst (rests (load_of self.now)) low high result }
     {
         let mut none = low;
         let mut some = high;

@@ -2,8 +2,8 @@
 use Rattle.std.specs.Prelude.{ℕ, ◌+◌, ◌*◌, List, [], ◌∷◌, ◌++◌}
 use Rattle.std.specs.Option.{unwrap_or}
 use Rattle.rows.specs.declared.tasks.Row.{Row}
-use Rattle.findings.specs.declared.verdicts.Finding.{Finding}
-use Rattle.findings.specs.Findings.{told}
+use Rattle.verdicts.specs.declared.verdicts.Finding.{Finding}
+use Rattle.verdicts.specs.Found.{verdict_rest}
 use Rattle.leaves.specs.declared.entries.Heading.{Heading}
 use Rattle.leaves.specs.declared.entries.Entry.{Entry}
 use Rattle.leaves.specs.declared.entries.Entry.TheVariants.{Heading as heading, Row as row, Finding as finding, End as end}
@@ -32,7 +32,7 @@ row_body r = four r.work ++ (four r.deadline ++ (four r.period ++ four r.jitter)
 
 -- the body of a finding: the first rest, 0 where the row misses, and the points
 abbrev pub finding_body : Finding → List ℕ
-finding_body f = four (unwrap_or (told f.verdict) 0) ++ four f.points
+finding_body f = four (unwrap_or (verdict_rest f.verdict) 0) ++ four f.points
 
 -- the bytes of an entry: its letter and its body
 abbrev pub entry_bytes : Entry → List ℕ

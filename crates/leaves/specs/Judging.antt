@@ -3,8 +3,8 @@ use Rattle.std.specs.Prelude.{ℕ, Bool, true, cond, not, ◌&&◌, ◌||◌, Li
 use Rattle.rows.specs.Answers.{Check, check}
 use Rattle.rows.specs.Times.{horizon, is_frame}
 use Rattle.bounds.specs.Meaning.{is_accuracy}
-use Rattle.findings.specs.declared.verdicts.Finding.{Finding}
-use Rattle.findings.specs.Findings.{told}
+use Rattle.verdicts.specs.declared.verdicts.Finding.{Finding}
+use Rattle.verdicts.specs.Found.{verdict_rest}
 use Rattle.leaves.specs.declared.entries.Heading.{Heading}
 
 -- the number of the last bound that a heading can name: 0 is exact steps, 1 the linear tail
@@ -29,9 +29,9 @@ rest_fits None = true
 rest_fits (Some t) = nat_le 1 t && nat_le t horizon
 
 -- a finding that cannot be one: it has no points, or a first rest that none can have
-abbrev pub bad_finding : Finding → Bool
-bad_finding f = f.points == 0 || not (rest_fits (told f.verdict))
+abbrev pub is_bad_finding : Finding → Bool
+is_bad_finding f = f.points == 0 || not (rest_fits (verdict_rest f.verdict))
 
 -- what is checked of a finding: bad finding
 abbrev pub finding_checks : Finding → ℕ → List Check
-finding_checks f at = check (bad_finding f) 17 at ∷ []
+finding_checks f at = check (is_bad_finding f) 17 at ∷ []

@@ -9,10 +9,10 @@ use Rattle.rows.specs.Judging.{plain, row_of, frame_flaws, flaw_checks}
 use Rattle.rows.specs.Times.{horizon, is_frame, most_rows}
 use Rattle.rows.proofs.Checks.{first_passes, given_is}
 use Rattle.rows.proofs.SameRow.{row_of_plain}
-use Rattle.findings.specs.declared.verdicts.Finding.{Finding}
-use Rattle.findings.specs.declared.verdicts.Verdict.{Verdict}
-use Rattle.findings.specs.declared.verdicts.Verdict.TheVariants.{Meets, Misses}
-use Rattle.findings.specs.Findings.{told}
+use Rattle.verdicts.specs.declared.verdicts.Finding.{Finding}
+use Rattle.verdicts.specs.declared.verdicts.Verdict.{Verdict}
+use Rattle.verdicts.specs.declared.verdicts.Verdict.TheVariants.{Meets, Misses}
+use Rattle.verdicts.specs.Found.{verdict_rest}
 use Rattle.leaves.specs.declared.entries.Heading.{Heading}
 use Rattle.leaves.specs.declared.entries.Entry.{Entry}
 use Rattle.leaves.specs.declared.entries.Entry.TheVariants.{Heading as heading, Row as row, Finding as finding, End as end}

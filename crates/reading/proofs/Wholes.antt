@@ -8,7 +8,7 @@ use Rattle.rows.specs.declared.tasks.Row.{Row}
 use Rattle.rows.specs.Answers.{Answer, gives, refuses}
 use Rattle.rows.specs.Counting.{on_frame}
 use Rattle.rows.specs.Times.{most_rows}
-use Rattle.findings.specs.declared.verdicts.Finding.{Finding}
+use Rattle.verdicts.specs.declared.verdicts.Finding.{Finding}
 use Rattle.leaves.specs.declared.entries.Heading.{Heading}
 use Rattle.leaves.specs.declared.entries.Entry.{Entry}
 use Rattle.leaves.specs.declared.entries.Entry.TheVariants.{Heading as heading, Row as row, Finding as finding, End as end}

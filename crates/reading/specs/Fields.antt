@@ -3,9 +3,9 @@ use Rattle.std.specs.Prelude.{ℕ, Bool, true, false, cond, ◌||◌, List, [], 
 use Rattle.std.specs.Option.{option_map}
 use Rattle.rows.specs.declared.tasks.Numbers.{Numbers}
 use Rattle.rows.specs.Judging.{row_of}
-use Rattle.findings.specs.declared.verdicts.Finding.{Finding}
-use Rattle.findings.specs.declared.verdicts.Verdict.{Verdict}
-use Rattle.findings.specs.declared.verdicts.Verdict.TheVariants.{Meets, Misses}
+use Rattle.verdicts.specs.declared.verdicts.Finding.{Finding}
+use Rattle.verdicts.specs.declared.verdicts.Verdict.{Verdict}
+use Rattle.verdicts.specs.declared.verdicts.Verdict.TheVariants.{Meets, Misses}
 use Rattle.leaves.specs.declared.entries.Heading.{Heading}
 use Rattle.leaves.specs.declared.entries.Entry.{Entry}
 use Rattle.leaves.specs.declared.entries.Entry.TheVariants.{Heading as heading, Row as row, Finding as finding, End as end}

@@ -4,7 +4,7 @@ use Rattle.std.proofs.lemmas.Nat.{div-mul-add, div-add-mod', mod_below}
 use Rattle.std.proofs.lemmas.Grind.{div_ceil_times}
 use Rattle.rows.specs.declared.tasks.Row.{Row}
 use Rattle.rows.specs.Times.{ceiling}
-use Rattle.rows.specs.Counting.{steps, Jobs}
+use Rattle.rows.specs.Counting.{steps, CountsJobs}
 
 -- q b's cover a, and one fewer do not
 pub ceiling_is : (a b q : ℕ) → 0 < b → a ≤ q * b → q * b < a + b → ceiling a b ≡ q
@@ -30,7 +30,7 @@ pub ceiling_by_quotient : (a b : ℕ) → 0 < b → a / b + min 1 (a % b) ≡ ce
 ceiling_by_quotient a b some = let bounds = div_ceil_times a b some in sym (ceiling_is a b (a / b + min 1 (a % b)) some bounds.0 bounds.1)
 
 -- the steps of a row are the work of as many jobs as it takes periods to cover the time
-pub steps_jobs : (r : Row) (t s : ℕ) → s ≡ steps r t → Jobs r t s
+pub steps_jobs : (r : Row) (t s : ℕ) → s ≡ steps r t → CountsJobs r t s
 steps_jobs r t s same = record {
   jobs = ceiling (t + r.jitter) r.period;
   work = same;

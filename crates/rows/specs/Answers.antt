@@ -1,5 +1,6 @@
 -- What a call that can refuse answers, in numbers.
-use Rattle.std.specs.Prelude.{◌≡◌, ℕ, Bool, cond, List, [], ◌∷◌, Ok, Err, Result}
+use Rattle.std.specs.Prelude.{◌≡◌, ℕ, ◌+◌, Bool, List, [], ◌∷◌, Some, None, Option, Ok, Err, Result, if◌then◌else◌, position}
+use Rattle.std.specs.Option.{option_map}
 use Rattle.rows.specs.declared.refusals.Fault.{Fault}
 use Rattle.rows.specs.Refusals.{number}
 
@@ -13,20 +14,28 @@ abbrev pub answer : {X A : Type 0} → (X → A) → Result X Fault → Answer A
 answer f (Ok x) = gives (f x)
 answer f (Err e) = refuses (number e.refusal) e.at
 
--- a check: what is wrong, the number of the refusal for it, and the position told
+-- a check: the number of its refusal, and the position that it tells where something is wrong
 pub record Check : Type 0 where
-  pub wrong : Bool
   pub refusal : ℕ
-  pub at : ℕ
+  pub at : Option ℕ
 
--- a check, written out
+-- a check of one thing, which is wrong or not, for a position
 abbrev pub check : Bool → ℕ → ℕ → Check
-check wrong refusal at = record { wrong = wrong; refusal = refusal; at = at }
+check wrong refusal at = record { refusal = refusal; at = if wrong then Some at else None }
+
+-- a check of every place of a list: it tells the first place that is wrong, counted from 1
+abbrev pub check_each : {X : Type 0} → (X → Bool) → ℕ → List X → Check
+check_each wrong refusal xs = record { refusal = refusal; at = option_map (λ i. i + 1) (position wrong xs) }
+
+-- a refusal, where there is a position to tell; else another answer
+abbrev pub refuses_at : {A : Type 0} → ℕ → Option ℕ → Answer A → Answer A
+refuses_at refusal (Some at) otherwise = refuses refusal at
+refuses_at refusal None otherwise = otherwise
 
 -- the first check that finds something wrong refuses; where none does, the answer is given
 abbrev pub checked : {A : Type 0} → List Check → A → Answer A
 checked [] x = gives x
-checked (c ∷ cs) x = cond c.wrong (refuses c.refusal c.at) (checked cs x)
+checked (c ∷ cs) x = refuses_at c.refusal c.at (checked cs x)
 
 -- none of the checks finds anything wrong
 abbrev pub Passes : List Check → Type 0

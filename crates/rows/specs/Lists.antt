@@ -1,9 +1,5 @@
--- What is said of lists.
-use Rattle.std.specs.Prelude.{◌≡◌, ℕ, ◌+◌, ◌<◌, ◌≤◌, ◌⊎◌, Bool, List, ◌++◌, length, take, drop, take_while, slice_index_or}
-
--- how many elements, from the front on, pass a test
-abbrev pub leading : {X : Type 0} → (X → Bool) → List X → ℕ
-leading p xs = length (take_while p xs)
+-- What is said of lists that a call fills in part.
+use Rattle.std.specs.Prelude.{◌≡◌, ℕ, ◌+◌, ◌<◌, ◌≤◌, ◌⊎◌, List, ◌++◌, length, take, drop, slice_index_or}
 
 -- a list with new elements written over it from place i on: the places before i and those past the new elements stay
 abbrev pub written : {X : Type 0} → List X → ℕ → List X → List X

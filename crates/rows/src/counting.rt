@@ -2,7 +2,7 @@
 ghost use Rattle.std.specs.Prelude.{◌≡◌};
 ghost use Rattle.rows.specs.Judging.{plain};
 ghost use Rattle.rows.specs.Times.{is_frame};
-ghost use Rattle.rows.specs.Counting.{on_frame, window, steps, Jobs};
+ghost use Rattle.rows.specs.Counting.{is_on_frame, window, steps, CountsJobs, StepsRise};
 
 use crate::tasks::{Numbers, Row};
 
@@ -41,15 +41,16 @@ impl Row {
 
     /// Whether the period divides the frame.
     pub fn stands_on(&self, frame: u32) -> bool
-        ensures { result ≡ on_frame frame self.now }
+        ensures { result ≡ is_on_frame frame self.now }
     {
         frame % self.period == 0
     }
 
     /// The exact steps at an instant: work × ceiling((at + jitter) / period).
     pub fn steps(&self, at: u32) -> u64
-        ensures value { result ≡ steps self.now at }
-        ensures jobs { Jobs self.now at result }
+        ensures answered { result ≡ steps self.now at }
+        ensures jobs { CountsJobs self.now at result }
+        ensures rising { StepsRise self.now }
     {
         let jobs = (u64::from(at) + u64::from(self.jitter)).div_ceil(u64::from(self.period));
         u64::from(self.work) * jobs

@@ -1,27 +1,64 @@
 // Four numbers are made a row, or refused.
 ghost use Rattle.std.specs.Prelude.{◌≡◌};
 ghost use Rattle.rows.specs.Answers.{answer, checked};
-ghost use Rattle.rows.specs.Judging.{plain, row_flaws, frame_flaws, flaw_checks};
+ghost use Rattle.rows.specs.Judging.{
+  plain,
+  row_flaws,
+  frame_flaws,
+  flaw_checks,
+  is_idle,
+  has_no_window,
+  has_late_deadline,
+  has_long_period,
+};
 
 use crate::counting::HORIZON;
 use crate::refusals::{Fault, Refusal};
 use crate::tasks::{Numbers, Row};
 
 impl Numbers {
+    /// Whether they ask for no work: refusal 4, idle row.
+    pub fn is_idle(&self) -> bool
+        ensures { result ≡ is_idle self.now }
+    {
+        self.work == 0
+    }
+
+    /// Whether work and jitter together pass the deadline: refusal 5, no window.
+    pub fn has_no_window(&self) -> bool
+        ensures { result ≡ has_no_window self.now }
+    {
+        u64::from(self.work) + u64::from(self.jitter) > u64::from(self.deadline)
+    }
+
+    /// Whether the deadline passes the period: refusal 6, late deadline.
+    pub fn has_late_deadline(&self) -> bool
+        ensures { result ≡ has_late_deadline self.now }
+    {
+        self.deadline > self.period
+    }
+
+    /// Whether the period passes the horizon: refusal 7, long period.
+    pub fn has_long_period(&self) -> bool
+        ensures { result ≡ has_long_period self.now }
+    {
+        self.period > HORIZON
+    }
+
     /// The row of these four numbers. A refusal tells the position that the caller hands in.
     pub fn judge(&self, at: u32) -> Result<Row, Fault>
         ensures { answer plain result ≡ checked (flaw_checks row_flaws self.now at) self.now }
     {
-        if self.work == 0 {
+        if self.is_idle() {
             return Err(Refusal::IdleRow.at(at));
         }
-        if u64::from(self.work) + u64::from(self.jitter) > u64::from(self.deadline) {
+        if self.has_no_window() {
             return Err(Refusal::NoWindow.at(at));
         }
-        if self.deadline > self.period {
+        if self.has_late_deadline() {
             return Err(Refusal::LateDeadline.at(at));
         }
-        if self.period > HORIZON {
+        if self.has_long_period() {
             return Err(Refusal::LongPeriod.at(at));
         }
         Ok(Row {

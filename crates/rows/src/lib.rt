@@ -1,4 +1,4 @@
-// The tasks of a table and the refusals of the toolkit: what every other crate speaks of.
+//! The tasks of a table and the refusals of the toolkit: what every other crate speaks of.
 #![tactic(auto)]
 
 mod counting;

@@ -1,17 +1,13 @@
 // Why a call was refused, and where. One enum and one fault for every layer of the toolkit.
-ghost use Rattle.std.specs.Prelude.{◌≡◌, Some, nat_eq, IsTrue, ◌↔◌};
+ghost use Rattle.std.specs.Prelude.{◌≡◌, Some};
 ghost use Rattle.rows.specs.Refusals.{number, words};
 ghost use Rattle.rows.specs.Shown.{shown_fault};
-ghost use Rattle.std.specs.Cmp.Rules.{comparing};
-ghost use Rattle.std.proofs.Common.{rules};
-ghost use Rattle.std.specs.Cmp.{partial_equiv_from_equiv};
-ghost use Rattle.std.specs.Ordering.{on};
 
 use std::error::Error;
 use std::fmt;
 
 /// The refusals, each with the number by which it is known.
-#[derive(Clone, Copy, Debug)]
+#[derive(Clone, Copy, PartialEq, Eq, Debug)]
 pub enum Refusal {
     BadFrame = 1,
     StandingRows = 2,
@@ -87,24 +83,6 @@ impl Refusal {
             Refusal::UnknownBound => "unknown bound",
         }
     }
-}
-
-// Two refusals are equal where they are the same case.
-impl PartialEq for Refusal {
-    ghost eq = { on number nat_eq };
-
-    ghost laws = { partial_equiv_from_equiv (Prim.search (comparing, rules)) };
-
-    fn eq(&self, other: &Refusal) -> bool
-        ensures numbers { result ≡ on number nat_eq self.now other.now }
-        ensures decides { IsTrue result ↔ (self.now ≡ other.now) }
-    {
-        self.number() == other.number()
-    }
-}
-
-impl Eq for Refusal {
-    ghost laws = { Prim.search (comparing, rules) };
 }
 
 // A fault as a person reads it: "refusal 8, off frame, at 3".

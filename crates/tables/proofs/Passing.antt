@@ -7,7 +7,7 @@ use Rattle.std.proofs.lemmas.Bool.{cond-false, le-ltb, ltb-false, not-false, not
 use Rattle.rows.specs.declared.tasks.Numbers.{Numbers}
 use Rattle.rows.specs.declared.tasks.Row.{Row}
 use Rattle.rows.specs.Answers.{gives, refuses, check, checked}
-use Rattle.rows.specs.Counting.{on_frame}
+use Rattle.rows.specs.Counting.{is_on_frame}
 use Rattle.rows.specs.Judging.{Flaw, plain}
 use Rattle.rows.proofs.Checks.{first_passes, passed_first}
 use Rattle.findings.specs.Asking.{size_checks, standing, table_checks}
@@ -32,17 +32,17 @@ all_divide h table passes =
     (first_flaw _ _ table near.1).0
 
 -- rows whose numbers are on the frame stand on it
-on_all : (h : ℕ) (rows : List Row) → AllPass (λ n. not (not (eqb (h % n.period) 0))) (map plain rows) → AllPass (on_frame h) rows
+on_all : (h : ℕ) (rows : List Row) → AllPass (λ n. not (not (eqb (h % n.period) 0))) (map plain rows) → AllPass (is_on_frame h) rows
 on_all h rows all k d within =
     let here = all k (plain d) (omega (arith, length-map rows plain)) in
-    not-false (on_frame h (get_or rows k d)) (not-true _ (subst (λ n. not (not (eqb (h % n.period) 0)) ≡ true) (get_or-map plain rows k d) here))
+    not-false (is_on_frame h (get_or rows k d)) (not-true _ (subst (λ n. not (not (eqb (h % n.period) 0)) ≡ true) (get_or-map plain rows k d) here))
 
 -- rows made of a table that comes through its checks come through those of a count into a list
 pub count_passes : (h : ℕ) (table : List Numbers) (rows : List Row) (places : ℕ) → gives tt ≡ checked {A = Unit {0}} (size_checks h (length table) places) tt → map plain rows ≡ table
     → gives tt ≡ judged h table → gives tt ≡ checked {A = Unit {0}} (table_checks h rows places) tt
 count_passes h table rows places size are passes =
     let count : length table ≡ length rows = sym (ap length are) ∙ length-map rows plain in
-    let on = leading_from_all (on_frame h) rows (on_all h rows (subst (AllPass (λ n. not (not (eqb (h % n.period) 0)))) (sym are) (all_divide h table passes))) in
+    let on = leading_from_all (is_on_frame h) rows (on_all h rows (subst (AllPass (λ n. not (not (eqb (h % n.period) 0)))) (sym are) (all_divide h table passes))) in
     let last = check (ltb (standing h rows) (length rows)) 8 (standing h rows + 1) in
     sym (cond-false last.wrong (refuses 8 last.at) (gives tt) (le-ltb (standing h rows) (length rows) on))
     ∙ passed_first (size_checks h (length rows) places) (last ∷ []) tt tt (subst (λ n. gives tt ≡ checked {A = Unit {0}} (size_checks h n places) tt) count size) tt

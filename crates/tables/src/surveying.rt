@@ -3,7 +3,7 @@ ghost use Rattle.std.specs.Prelude.{◌≡◌, map, length, MatchResult, OnOk};
 ghost use Rattle.rows.specs.Answers.{answer, checked};
 ghost use Rattle.rows.specs.Judging.{plain, rows_of};
 ghost use Rattle.rows.specs.Lists.{written, StaysOutside};
-ghost use Rattle.findings.specs.Findings.{tells};
+ghost use Rattle.verdicts.specs.Found.{tells};
 ghost use Rattle.findings.specs.Tables.{findings_of, TableSays};
 ghost use Rattle.tables.specs.Surveys.{survey_checks};
 

@@ -5,7 +5,8 @@ use Rattle.rows.specs.declared.tasks.Row.{Row}
 use Rattle.rows.specs.Counting.{steps}
 use Rattle.bounds.specs.Meaning.{Meaning}
 use Rattle.bounds.specs.Supplied.{exact_steps, linear_tail}
-use Rattle.findings.specs.Findings.{Found, row_finding}
+use Rattle.verdicts.specs.Found.{Found}
+use Rattle.findings.specs.Findings.{row_finding}
 use Rattle.findings.specs.Tables.{findings_of}
 use Rattle.brackets.specs.Bracketing.{slow_rest}
 
@@ -51,4 +52,4 @@ pub record Worked : Type 0 where
   pub parts_at_5 : (linear_tail 2).amount 12 row_b 5 ≡ 24
   pub parts_at_6 : (linear_tail 2).amount 12 row_b 6 ≡ 52
   -- the corners of B under the tail of accuracy 3 are 5 and 11
-  pub corners : (t : ℕ) → (linear_tail 3).corner row_b t ≡ (t == 5 || t == 11)
+  pub corners : (t : ℕ) → (linear_tail 3).is_corner row_b t ≡ (t == 5 || t == 11)

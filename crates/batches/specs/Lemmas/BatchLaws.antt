@@ -5,13 +5,12 @@ use Rattle.std.proofs.Common.{arith}
 use Rattle.std.proofs.lemmas.Nat.{mul-le}
 use Rattle.rows.specs.declared.tasks.Row.{Row}
 use Rattle.rows.specs.Times.{horizon}
-use Rattle.rows.specs.Counting.{steps}
+use Rattle.rows.specs.Counting.{steps, is_rise}
 use Rattle.rows.proofs.Ceiling.{ceiling_grows}
 use Rattle.bounds.specs.Laws.{Laws}
 use Rattle.bounds.specs.Meaning.{finest}
-use Rattle.bounds.specs.Supplied.{rises}
 use Rattle.bounds.specs.Lemmas.Instants.{count_le}
-use Rattle.bounds.specs.Lemmas.Rising.{steps_stay}
+use Rattle.rows.proofs.Rising.{steps_stay}
 use Rattle.batches.specs.Batching.{counted, job_count, batches}
 use Rattle.batches.specs.Lemmas.JobsCounted.{counted_covers, counted_close, counted_grows}
 
@@ -20,7 +19,7 @@ jobs_grow : (r : Row) (s t : ℕ) → s ≤ t → job_count r s ≤ job_count r 
 jobs_grow r s t order = ceiling_grows (s + r.jitter) (t + r.jitter) r.period (omega arith) (omega arith)
 
 -- and where exact steps do not rise, there are as many jobs an instant later
-jobs_stay : (r : Row) (t : ℕ) → 1 ≤ t → rises r t ≡ false → job_count r (t + 1) ≡ job_count r t
+jobs_stay : (r : Row) (t : ℕ) → 1 ≤ t → is_rise r t ≡ false → job_count r (t + 1) ≡ job_count r t
 jobs_stay r t late rest = eq_of_mul-eq-mul_left r.work r.busy _ _ (steps_stay r t late rest)
 
 -- more jobs have no fewer parts
@@ -37,7 +36,7 @@ module _ (k g : ℕ) (some : 1 ≤ g) (h : ℕ) (r : Row) where
   amount_close t = omega (arith, parts_grow h r.work (k * counted k g (job_count r t)) ((k + 1) * job_count r t) (counted_close k g some (job_count r t)))
 
   -- the amount bends upward only where exact steps rise
-  amount_bends : (t : ℕ) → 1 ≤ t → rises r t ≡ false → amount (t - 1) + amount (t + 1) ≤ 2 * amount t
+  amount_bends : (t : ℕ) → 1 ≤ t → is_rise r t ≡ false → amount (t - 1) + amount (t + 1) ≤ 2 * amount t
   amount_bends t late rest =
       let before = parts_grow h r.work _ _ (counted_grows k g some (job_count r (t - 1)) (job_count r t) (jobs_grow r (t - 1) t (omega arith))) in
       rw (jobs_stay r t late rest) (omega arith)
@@ -52,5 +51,5 @@ batch_laws k g low high some =
       most_accuracy = high;
       bends = λ h r t ask late before rest. amount_bends k g some h r t late rest;
       starts = λ r. refl;
-      few = λ r. count_le (rises r) horizon;
+      few = λ r. count_le (is_rise r) horizon;
     }

@@ -4,54 +4,55 @@ use Rattle.std.proofs.Common.{sym, refl, ⊎_elim, lt_of_mul-lt-mul_right, arith
 use Rattle.std.proofs.lemmas.Nat.{mul-le}
 use Rattle.std.proofs.lemmas.Bool.{and_parts, and_left, and_right, and_from, and_cases, leb-true, leb-false, le-leb, lt-leb, cases_lt, both_ways}
 use Rattle.rows.specs.declared.tasks.Row.{Row}
-use Rattle.bounds.specs.Instants.{count, First}
-use Rattle.bounds.specs.Supplied.{rises, before_tail, linear_tail}
-use Rattle.bounds.specs.Lemmas.Rising.{at_multiple, multiple_rises}
+use Rattle.rows.specs.Counting.{is_rise}
+use Rattle.bounds.specs.Instants.{count, IsFirst}
+use Rattle.bounds.specs.Supplied.{is_before_tail, linear_tail}
+use Rattle.rows.proofs.Rising.{at_multiple, multiple_rises}
 
 module _ (k : ℕ) (r : Row) where
   -- the corners of the row
   abbrev corner : ℕ → Bool
-  corner = (linear_tail k).corner r
+  corner = (linear_tail k).is_corner r
 
   -- where the tail begins, counted from the release
   abbrev begin : ℕ
   begin = (k - 1) * r.period
 
   -- what is before the tail was before it earlier
-  pub earlier_before : (s t : ℕ) → s ≤ t → before_tail k r t ≡ true → before_tail k r s ≡ true
+  pub earlier_before : (s t : ℕ) → s ≤ t → is_before_tail k r t ≡ true → is_before_tail k r s ≡ true
   earlier_before s t order before = le-leb (s + r.jitter) begin (omega (arith, leb-true (t + r.jitter) begin before))
 
   -- what is past the tail's beginning stays past it
-  pub later_past : (s t : ℕ) → s ≤ t → before_tail k r s ≡ false → before_tail k r t ≡ false
+  pub later_past : (s t : ℕ) → s ≤ t → is_before_tail k r s ≡ false → is_before_tail k r t ≡ false
   later_past s t order past = lt-leb (t + r.jitter) begin (omega (arith, leb-false (s + r.jitter) begin past))
 
   -- before the tail, what is no corner is no rise
-  pub rest_before : (t : ℕ) → corner t ≡ false → before_tail k r t ≡ true → rises r t ≡ false
-  rest_before t rest before = ⊎_elim (λ e. e) (λ past. absurd (both_ways (before_tail k r t) past before)) (and_cases (rises r t) (before_tail k r t) rest)
+  pub rest_before : (t : ℕ) → corner t ≡ false → is_before_tail k r t ≡ true → is_rise r t ≡ false
+  rest_before t rest before = ⊎_elim (λ e. e) (λ past. absurd (both_ways (is_before_tail k r t) past before)) (and_cases (is_rise r t) (is_before_tail k r t) rest)
 
   -- before the tail and at no rise there is room for one instant more
-  pub still_before : (t : ℕ) → 1 ≤ t → rises r t ≡ false → before_tail k r t ≡ true → before_tail k r (t + 1) ≡ true
+  pub still_before : (t : ℕ) → 1 ≤ t → is_rise r t ≡ false → is_before_tail k r t ≡ true → is_before_tail k r (t + 1) ≡ true
   still_before t late rest before =
       let order = leb-true (t + r.jitter) begin before in
       let some = lt_of_mul-lt-mul_right r.period {m = 0} {n = k - 1} (omega arith) in
-      let apart : t + r.jitter ≡ begin → ⊥ = λ whole. both_ways (rises r t) rest (multiple_rises r t (k - 1) some whole) in
+      let apart : t + r.jitter ≡ begin → ⊥ = λ whole. both_ways (is_rise r t) rest (multiple_rises r t (k - 1) some whole) in
       le-leb (t + 1 + r.jitter) begin (omega arith)
 
   -- the first rise is the first corner where it is before the tail
-  pub first_corner : (s e t : ℕ) → First (rises r) s e t → true ≡ before_tail k r t → First corner s e t
+  pub first_corner : (s e t : ℕ) → IsFirst (is_rise r) s e t → true ≡ is_before_tail k r t → IsFirst corner s e t
   first_corner s e t first before =
       record {
         after = first.after;
         within = first.within;
-        holds = and_from (rises r t) (before_tail k r t) first.holds (sym before);
-        none = λ i low high. and_left (rises r i) (before_tail k r i) (first.none i low high);
+        holds = and_from (is_rise r t) (is_before_tail k r t) first.holds (sym before);
+        none = λ i low high. and_left (is_rise r i) (is_before_tail k r i) (first.none i low high);
       }
 
   -- where the first rise is past the tail's beginning, no corner follows
-  pub no_corner : (s e t : ℕ) → First (rises r) s e t → false ≡ before_tail k r t → (i : ℕ) → s < i → corner i ≡ false
+  pub no_corner : (s e t : ℕ) → IsFirst (is_rise r) s e t → false ≡ is_before_tail k r t → (i : ℕ) → s < i → corner i ≡ false
   no_corner s e t first past i low =
-      ⊎_elim (λ early. and_left (rises r i) (before_tail k r i) (first.none i low early))
-      (λ late. and_right (rises r i) (before_tail k r i) (later_past t i late (sym past)))
+      ⊎_elim (λ early. and_left (is_rise r i) (is_before_tail k r i) (first.none i low early))
+      (λ late. and_right (is_rise r i) (is_before_tail k r i) (later_past t i late (sym past)))
       (cases_lt i t)
 
   -- up to an instant n there are at most k − 1 corners, each with a period of its own up to n + jitter
@@ -64,7 +65,7 @@ module _ (k : ℕ) (r : Row) where
           → (m + cond b 1 0 ≤ k - 1) × ((m + cond b 1 0) * r.period ≤ suc n + r.jitter)
       at m false _ few = (omega arith, omega arith)
       at m true here few =
-          let parts = and_parts (rises r (suc n)) (before_tail k r (suc n)) here in
+          let parts = and_parts (is_rise r (suc n)) (is_before_tail k r (suc n)) here in
           let order = leb-true (suc n + r.jitter) begin parts.1 in
           let rise = at_multiple r (suc n) parts.0 in
           let less = lt_of_mul-lt-mul_right r.period {m = m} {n = k - 1} (omega arith) in

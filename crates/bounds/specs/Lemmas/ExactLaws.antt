@@ -4,14 +4,14 @@ use Rattle.std.proofs.Common.{arith}
 use Rattle.std.proofs.lemmas.Nat.{mul-le}
 use Rattle.rows.specs.declared.tasks.Row.{Row}
 use Rattle.rows.specs.Times.{horizon}
-use Rattle.rows.specs.Counting.{steps}
+use Rattle.rows.specs.Counting.{steps, is_rise}
 use Rattle.bounds.specs.Laws.{Laws}
-use Rattle.bounds.specs.Supplied.{rises, exact_steps}
+use Rattle.bounds.specs.Supplied.{exact_steps}
 use Rattle.bounds.specs.Lemmas.Instants.{count_le}
-use Rattle.bounds.specs.Lemmas.Rising.{steps_grow, steps_stay}
+use Rattle.rows.proofs.Rising.{steps_grow, steps_stay}
 
 -- exact steps bend upward only where they rise
-pub exact_bends : (h : ℕ) (r : Row) (t : ℕ) → 1 ≤ t → rises r t ≡ false → h * steps r (t - 1) + h * steps r (t + 1) ≤ 2 * (h * steps r t)
+pub exact_bends : (h : ℕ) (r : Row) (t : ℕ) → 1 ≤ t → is_rise r t ≡ false → h * steps r (t - 1) + h * steps r (t + 1) ≤ 2 * (h * steps r t)
 exact_bends h r t late rest =
     let before = mul-le h (steps r (t - 1)) h (steps r t) (omega arith) (steps_grow r (t - 1) t (omega arith)) in
     rw (steps_stay r t late rest) (omega arith)
@@ -26,5 +26,5 @@ exact_laws =
       most_accuracy = omega arith;
       bends = λ h r t ask late before rest. exact_bends h r t late rest;
       starts = λ r. refl;
-      few = λ r. count_le (rises r) horizon;
+      few = λ r. count_le (is_rise r) horizon;
     }

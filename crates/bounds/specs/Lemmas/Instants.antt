@@ -2,7 +2,7 @@
 use Rattle.std.specs.Prelude.{◌≡◌, ℕ, zero, suc, ◌+◌, ◌-◌, ◌<◌, ◌≤◌, Bool, true, false, cond, Some, None, Option, MatchOption}
 use Rattle.std.proofs.Common.{sym, refl, ap, ◌∙◌, subst, ⊎_elim, arith}
 use Rattle.std.proofs.lemmas.Bool.{both_ways, cases_order}
-use Rattle.bounds.specs.Instants.{least, count, First}
+use Rattle.bounds.specs.Instants.{least, count, IsFirst}
 
 module _ (p : ℕ → Bool) where
   -- none of the n instants from s on has p
@@ -33,42 +33,42 @@ module _ (p : ℕ → Bool) where
   least_tells (suc n) s = step n s (p s) refl (least_tells n (suc s))
 
   -- two first instants are one
-  pub first_unique : {s e d t u : ℕ} → First p s e t → First p s d u → t ≡ u
+  pub first_unique : {s e d t u : ℕ} → IsFirst p s e t → IsFirst p s d u → t ≡ u
   first_unique {t = t} {u = u} f g =
       ⊎_elim (λ e. e)
       (λ o. absurd (⊎_elim (λ l. both_ways (p t) (g.none t f.after l) f.holds) (λ l. both_ways (p u) (f.none u g.after l) g.holds) o))
       (cases_order t u)
 
   -- what `least` tells of the n instants after s
-  pub least_after : (n s : ℕ) → MatchOption (least p n (s + 1)) ((i : ℕ) → s < i → i ≤ s + n → p i ≡ false) (First p s (s + n))
+  pub least_after : (n s : ℕ) → MatchOption (least p n (s + 1)) ((i : ℕ) → s < i → i ≤ s + n → p i ≡ false) (IsFirst p s (s + n))
   least_after n s = read (least p n (s + 1)) (least_tells n (s + 1))
     where
-      read : (o : Option ℕ) → MatchOption o (NoneOf n (s + 1)) (FirstOf n (s + 1)) → MatchOption o ((i : ℕ) → s < i → i ≤ s + n → p i ≡ false) (First p s (s + n))
+      read : (o : Option ℕ) → MatchOption o (NoneOf n (s + 1)) (FirstOf n (s + 1)) → MatchOption o ((i : ℕ) → s < i → i ≤ s + n → p i ≡ false) (IsFirst p s (s + n))
       read None none = λ i low high. none i (omega arith) (omega arith)
       read (Some t) f = record { after = omega arith; within = omega arith; holds = f.2; none = λ i low high. f.3 i (omega arith) high }
 
   -- what it tells of the instants from 1 to n
-  pub least_up_to : (n : ℕ) → MatchOption (least p n 1) ((i : ℕ) → 1 ≤ i → i ≤ n → p i ≡ false) (First p 0 n)
+  pub least_up_to : (n : ℕ) → MatchOption (least p n 1) ((i : ℕ) → 1 ≤ i → i ≤ n → p i ≡ false) (IsFirst p 0 n)
   least_up_to n =
       let all : 0 + n ≡ n = omega arith in
-      subst (λ e. MatchOption (least p n 1) ((i : ℕ) → 1 ≤ i → i ≤ e → p i ≡ false) (First p 0 e)) all (least_after n 0)
+      subst (λ e. MatchOption (least p n 1) ((i : ℕ) → 1 ≤ i → i ≤ e → p i ≡ false) (IsFirst p 0 e)) all (least_after n 0)
 
-  pub least_some : (n s e t : ℕ) → First p s e t → t ≤ s + n → least p n (s + 1) ≡ Some t
+  pub least_some : (n s e t : ℕ) → IsFirst p s e t → t ≤ s + n → least p n (s + 1) ≡ Some t
   least_some n s e t first within = read (least p n (s + 1)) (least_after n s)
     where
-      read : (o : Option ℕ) → MatchOption o ((i : ℕ) → s < i → i ≤ s + n → p i ≡ false) (First p s (s + n)) → o ≡ Some t
+      read : (o : Option ℕ) → MatchOption o ((i : ℕ) → s < i → i ≤ s + n → p i ≡ false) (IsFirst p s (s + n)) → o ≡ Some t
       read None none = absurd (both_ways (p t) (none t first.after within) first.holds)
       read (Some u) f = ap Some (first_unique f first)
 
   pub least_none : (n s : ℕ) → ((i : ℕ) → s < i → i ≤ s + n → p i ≡ false) → least p n (s + 1) ≡ None
   least_none n s none = read (least p n (s + 1)) (least_after n s)
     where
-      read : (o : Option ℕ) → MatchOption o ((i : ℕ) → s < i → i ≤ s + n → p i ≡ false) (First p s (s + n)) → o ≡ None
+      read : (o : Option ℕ) → MatchOption o ((i : ℕ) → s < i → i ≤ s + n → p i ≡ false) (IsFirst p s (s + n)) → o ≡ None
       read None _ = refl
       read (Some u) f = absurd (both_ways (p u) (none u f.after f.within) f.holds)
 
   -- what is answered about the instants after s, up to e, where something is asked: the first, or none
-  pub asked_some : (b : Bool) (s e d t : ℕ) → true ≡ b → First p s d t → t ≤ e → Some t ≡ cond b (least p (e - s) (s + 1)) None
+  pub asked_some : (b : Bool) (s e d t : ℕ) → true ≡ b → IsFirst p s d t → t ≤ e → Some t ≡ cond b (least p (e - s) (s + 1)) None
   asked_some true s e d t _ first within = sym (least_some (e - s) s d t first (omega (arith, first.after)))
   asked_some false s e d t ask _ _ = absurd (both_ways true ask refl)
 
@@ -91,7 +91,7 @@ module _ (p : ℕ → Bool) where
       rw e (omega arith)
 
   -- up to the first instant after s there is one more
-  pub count_first : (s e t : ℕ) → First p s e t → count p t ≡ count p s + 1
+  pub count_first : (s e t : ℕ) → IsFirst p s e t → count p t ≡ count p s + 1
   count_first s e t first =
       let last : suc (s + (t - suc s)) ≡ t = omega (arith, first.after) in
       let before = count_same (t - suc s) s (λ i low high. first.none i low (omega (arith, first.after))) in

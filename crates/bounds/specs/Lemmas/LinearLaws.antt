@@ -5,11 +5,11 @@ use Rattle.std.proofs.lemmas.Nat.{mul-le}
 use Rattle.std.proofs.lemmas.Bool.{leb-false, cond_both, cases_Bool}
 use Rattle.rows.specs.declared.tasks.Row.{Row}
 use Rattle.rows.specs.Times.{horizon, ceiling}
-use Rattle.rows.specs.Counting.{steps}
+use Rattle.rows.specs.Counting.{steps, is_rise}
 use Rattle.rows.proofs.Ceiling.{ceiling_covers, ceiling_tight}
 use Rattle.bounds.specs.Laws.{Laws}
 use Rattle.bounds.specs.Meaning.{finest}
-use Rattle.bounds.specs.Supplied.{rises, before_tail, linear_tail}
+use Rattle.bounds.specs.Supplied.{is_before_tail, linear_tail}
 use Rattle.bounds.specs.Lemmas.Asking.{asked_tells}
 use Rattle.bounds.specs.Lemmas.Corners.{earlier_before, later_past, rest_before, still_before, few_corners}
 use Rattle.bounds.specs.Lemmas.ExactLaws.{exact_bends}
@@ -60,15 +60,15 @@ module _ (k h : ℕ) (r : Row) where
 
   -- the amount is nowhere above the line
   pub below_line : (t : ℕ) → h / r.period * r.period ≡ h → amount t ≤ line h r t
-  below_line t whole = cond_both (before_tail k r t) (h * steps r t) (line h r t) (λ x. x ≤ line h r t) (λ _. line_covers h r t whole) (λ _. omega arith)
+  below_line t whole = cond_both (is_before_tail k r t) (h * steps r t) (line h r t) (λ x. x ≤ line h r t) (λ _. line_covers h r t whole) (λ _. omega arith)
 
   -- before the tail the amount bends upward only where steps rise
-  bends_before : (t : ℕ) → 1 ≤ t → rises r t ≡ false → before_tail k r t ≡ true → amount (t - 1) + amount (t + 1) ≤ 2 * amount t
+  bends_before : (t : ℕ) → 1 ≤ t → is_rise r t ≡ false → is_before_tail k r t ≡ true → amount (t - 1) + amount (t + 1) ≤ 2 * amount t
   bends_before t late rest before =
       rw (earlier_before k r (t - 1) t (omega arith) before, before, still_before k r t late rest before) (exact_bends h r t late rest)
 
   -- past the tail's beginning it does not bend upward at all
-  bends_after : (t : ℕ) → 1 ≤ t → h / r.period * r.period ≡ h → before_tail k r t ≡ false → amount (t - 1) + amount (t + 1) ≤ 2 * amount t
+  bends_after : (t : ℕ) → 1 ≤ t → h / r.period * r.period ≡ h → is_before_tail k r t ≡ false → amount (t - 1) + amount (t + 1) ≤ 2 * amount t
   bends_after t late whole past =
       let before = below_line (t - 1) whole in
       let straight = line_straight h r t late in
@@ -78,15 +78,15 @@ module _ (k h : ℕ) (r : Row) where
 pub linear_laws : (k : ℕ) → 1 ≤ k → k ≤ finest → Laws (linear_tail k)
 linear_laws k low high =
     record {
-      covers = λ h r t ask. cond_both (before_tail k r t) (h * steps r t) (line h r t) (λ x. h * steps r t ≤ x) (λ _. omega arith) (λ _. line_covers h r t (asked_tells h r t ask).whole);
-      close = λ h r t ask. cond_both (before_tail k r t) (h * steps r t) (line h r t) (λ x. k * x ≤ (k + 1) * (h * steps r t)) (λ _. omega arith)
-          (λ past. line_close h r t (asked_tells h r t ask).whole k (leb-false (t + r.jitter) ((k - 1) * r.period) past));
+      covers = λ h r t ask. cond_both (is_before_tail k r t) (h * steps r t) (line h r t) (λ x. h * steps r t ≤ x) (λ _. omega arith) (λ _. line_covers h r t (asked_tells h r t ask).divides);
+      close = λ h r t ask. cond_both (is_before_tail k r t) (h * steps r t) (line h r t) (λ x. k * x ≤ (k + 1) * (h * steps r t)) (λ _. omega arith)
+          (λ past. line_close h r t (asked_tells h r t ask).divides k (leb-false (t + r.jitter) ((k - 1) * r.period) past));
       some_accuracy = low;
       most_accuracy = high;
       bends = λ h r t ask late before rest. ⊎_elim
           (λ early. bends_before k h r t late (rest_before k r t rest early) early)
-          (λ past. bends_after k h r t late (asked_tells h r t ask).whole past)
-          (cases_Bool (before_tail k r t));
+          (λ past. bends_after k h r t late (asked_tells h r t ask).divides past)
+          (cases_Bool (is_before_tail k r t));
       starts = λ r. refl;
       few = λ r. (few_corners k r horizon).0;
     }

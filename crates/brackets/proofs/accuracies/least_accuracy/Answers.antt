@@ -1,10 +1,10 @@
 use Rattle.std.proofs.Common.{arith}
 use Rattle.std.proofs.lemmas.Result.{err_from_is_err_and}
 use Rattle.rows.proofs.Checks.{refuses_any}
-use Rattle.bounds.specs.Instants.{First}
+use Rattle.bounds.specs.Instants.{IsFirst}
 use Rattle.bounds.specs.Meaning.{finest}
 use Rattle.findings.specs.Asking.{checks}
-use Rattle.brackets.specs.Counting.{meets_by}
+use Rattle.brackets.specs.Counting.{has_rest_by}
 use Rattle.brackets.proofs.Passing.{stands}
 use Rattle.brackets.proofs.Tails.{finer_tails}
 use Rattle.brackets.proofs.Tried.{tail_meets, meets_from, least_met, none_met}
@@ -20,7 +20,7 @@ returns-in_err-finding c =
     }
 
 -- the accuracy at hand is the first by which the row meets
-first : (c : goal.In-Meets) → First (meets_by c.args.frame c.args.row.now c.args.above.now) 0 finest c.loop-accuracy.accuracy
+first : (c : goal.In-Meets) → IsFirst (has_rest_by c.args.frame c.args.row.now c.args.above.now) 0 finest c.loop-accuracy.accuracy
 first c = record {
   after = omega arith;
   within = omega arith;

@@ -1,7 +1,8 @@
 use Rattle.std.proofs.Common.{◌≡◌, ◌+◌, sym, ap, ◌∙◌, subst, rules}
 use Rattle.std.specs.Option.{option_map}
 use Rattle.findings.specs.Exact.{response, Responds}
-use Rattle.findings.specs.Findings.{tells, finding}
+use Rattle.verdicts.specs.Found.{tells}
+use Rattle.findings.specs.Findings.{finding}
 use Rattle.findings.proofs.Amounts.{frame_low}
 use Rattle.findings.proofs.FixedPoint.{found_at_window, response_is, responds}
 use Rattle.findings.proofs.asking.response_time.Goals as goal

@@ -1,6 +1,7 @@
 use Rattle.std.proofs.Common.{◌≡◌, ◌-◌, ◌<◌, [], map, length, drop, set, ap, ◌∙◌, arith}
 use Rattle.std.proofs.lemmas.List.{length-drop, length-map, map-set}
-use Rattle.findings.specs.Findings.{tells, finding}
+use Rattle.verdicts.specs.Found.{tells}
+use Rattle.findings.specs.Findings.{finding}
 use Rattle.findings.specs.Tables.{findings_of}
 use Rattle.findings.proofs.Tables.{length_findings_below, counted_at, put_more, put_all, stays_more, outside_end}
 use Rattle.findings.proofs.recounting.fill.Goals as goal

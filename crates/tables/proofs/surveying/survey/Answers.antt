@@ -4,7 +4,7 @@ use Rattle.rows.specs.Judging.{plain, frame_flaws}
 use Rattle.rows.specs.Lists.{written, StaysOutside}
 use Rattle.rows.proofs.Checks.{answered_once, gives_any, passed_first, refuses_any}
 use Rattle.findings.specs.Asking.{size_checks, table_checks}
-use Rattle.findings.specs.Findings.{tells}
+use Rattle.verdicts.specs.Found.{tells}
 use Rattle.findings.specs.Tables.{findings_of, TableSays}
 use Rattle.tables.specs.Surveys.{flaws_in}
 use Rattle.tables.proofs.Judged.{rows_made, numbers_kept, rows_counted}

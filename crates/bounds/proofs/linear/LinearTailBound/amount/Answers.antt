@@ -8,7 +8,7 @@ overflow_mul-result c =
     let row = c.args.row.now in
     let ask = asked_tells c.args.frame row c.args.at (sym c.if-not-asked.ensures) in
     let fit = steps_fit c.from-frame.result row c.args.at (omega arith) ask.near in
-    rw c.steps.ensures.value (record { fits = omega arith })
+    rw c.steps.ensures.answered (record { fits = omega arith })
 
 -- the sum fits, and so does each part of it
 sum_fits : (c : goal.After-from) → c.from-frame.result * c.from-work.result + c.from-ready.result * (c.from-work.result * (c.from-frame.result / c.from.result)) ≤ most_parts
@@ -25,5 +25,5 @@ overflow_add-result c = record { fits = omega (arith, sum_fits c) }
 
 pub returns : goal.returns
 returns c =
-    let line = cond-true _ _ _ (sym c.if-not-asked.ensures) ∙ cond-false _ _ _ (sym c.if-before_tail.ensures) in
+    let line = cond-true _ _ _ (sym c.if-not-asked.ensures) ∙ cond-false _ _ _ (sym c.if-is_before_tail.ensures) in
     rw (c.from-frame.ensures, c.from-work.ensures, c.from-ready.ensures, c.from.ensures) (sym (line ∙ omega arith))

@@ -1,6 +1,6 @@
 use Rattle.std.proofs.Common.{◌≡◌, sym, subst, arith}
 use Rattle.bounds.specs.Lemmas.Instants.{count_le}
-use Rattle.findings.specs.Findings.{tested, Says}
+use Rattle.findings.specs.Findings.{is_tested, Says}
 use Rattle.findings.specs.Loads.{load_of}
 use Rattle.findings.proofs.Walk.{Passed, start, turns_once, pass, meets, misses, finding_says}
 use Rattle.findings.proofs.loads.Load.search.Goals as goal
@@ -9,7 +9,7 @@ pub loop-before-init : goal.loop-before-init
 loop-before-init g c = start (load_of c.args.self.now) c.args.last (g.met.B.Bound.lawful c.args.self.now.bound.now) c.args.self.now.fit.stands c.requires.busy
 
 pub overflow_add-points : goal.overflow_add-points
-overflow_add-points g c = omega (arith, c.loop-before.invariant.counted, count_le (tested (load_of c.args.self.now) c.args.last) c.loop-before.before)
+overflow_add-points g c = omega (arith, c.loop-before.invariant.counted, count_le (is_tested (load_of c.args.self.now) c.args.last) c.loop-before.before)
 
 pub bisect-rest-requires : goal.bisect-rest-requires
 bisect-rest-requires g c = record {

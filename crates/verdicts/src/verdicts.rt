@@ -1,7 +1,7 @@
 // What is found about a row.
 ghost use Rattle.std.specs.Prelude.{◌≡◌, ◌+◌};
 ghost use Rattle.std.specs.Option.{option_map};
-ghost use Rattle.findings.specs.Findings.{told};
+ghost use Rattle.verdicts.specs.Found.{verdict_rest};
 
 use rows::Row;
 
@@ -24,7 +24,7 @@ impl Finding {
     /// The first rest plus the row's jitter: in exact steps the response time, by another bound a
     /// bound on it.
     pub fn response_bound(&self, row: &Row) -> Option<u64>
-        ensures { result ≡ option_map (λ t. t + row.now.jitter) (told self.now.verdict) }
+        ensures { result ≡ option_map (λ t. t + row.now.jitter) (verdict_rest self.now.verdict) }
     {
         match self.verdict {
             Verdict::Meets(rest) => Some(u64::from(rest) + u64::from(row.jitter)),

@@ -1,0 +1,21 @@
+-- The next rise of a row's steps.
+use Rattle.std.proofs.Common.{◌+◌, ◌-◌, ◌*◌, ◌/◌, ℕ, arith}
+use Rattle.std.proofs.lemmas.Nat.{div-add-mod', mod_below}
+use Rattle.rows.specs.declared.tasks.Row.{Row}
+use Rattle.rows.specs.Counting.{is_rise}
+use Rattle.rows.proofs.Rising.{multiple_rises, no_rise}
+use Rattle.bounds.specs.Instants.{IsFirst}
+
+-- the first rise after s is at the next multiple of the period
+pub first_rise : (r : Row) (s : ℕ) → IsFirst (is_rise r) s (s + r.period) (((s + r.jitter) / r.period + 1) * r.period - r.jitter)
+first_rise r s =
+    let b = (s + r.jitter) / r.period in
+    let t = (b + 1) * r.period - r.jitter in
+    let split = div-add-mod' (s + r.jitter) r.period in
+    let low = mod_below (s + r.jitter) r.period (omega arith) in
+    record {
+      after = omega arith;
+      within = omega arith;
+      holds = multiple_rises r t (b + 1) (omega arith) (omega arith);
+      none = λ i from to. no_rise r i b (omega arith) (omega arith);
+    }

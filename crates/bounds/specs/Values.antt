@@ -1,0 +1,16 @@
+-- What a caller may know of the supplied bounds as values.
+use Rattle.std.specs.Prelude.{ℕ}
+use Rattle.bounds.specs.declared.linear.LinearTail.{LinearTail}
+use Rattle.bounds.specs.declared.supplied.Supplied.{Supplied}
+use Rattle.bounds.specs.declared.supplied.Supplied.TheVariants.{ExactSteps as exact, LinearTail as tail}
+use Rattle.bounds.specs.Meaning.{Meaning}
+use Rattle.bounds.specs.Supplied.{exact_steps, linear_tail}
+
+-- the accuracy of a linear tail
+abbrev pub accuracy_of : LinearTail → ℕ
+accuracy_of t = t.accuracy
+
+-- what a supplied bound means
+abbrev pub meaning_of : Supplied → Meaning
+meaning_of exact = exact_steps
+meaning_of (tail t) = linear_tail (accuracy_of t)

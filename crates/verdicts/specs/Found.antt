@@ -1,0 +1,19 @@
+-- A finding in plain numbers.
+use Rattle.std.specs.Prelude.{ℕ, Some, None, Option}
+use Rattle.verdicts.specs.declared.verdicts.Finding.{Finding}
+use Rattle.verdicts.specs.declared.verdicts.Verdict.{Verdict}
+use Rattle.verdicts.specs.declared.verdicts.Verdict.TheVariants.{Meets, Misses}
+
+-- what is found, in numbers: the first rest, if there is one, and the points tested
+pub record Found : Type 0 where
+  pub rest : Option ℕ
+  pub points : ℕ
+
+-- the first rest that a verdict carries: none where the row misses
+abbrev pub verdict_rest : Verdict → Option ℕ
+verdict_rest (Meets t) = Some t
+verdict_rest Misses = None
+
+-- what a finding tells, in numbers
+abbrev pub tells : Finding → Found
+tells f = record { rest = verdict_rest f.verdict; points = f.points }

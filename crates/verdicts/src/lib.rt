@@ -1,0 +1,6 @@
+//! What is found about a row: whether it meets its deadline, and how many points were tested to know it.
+#![tactic(auto)]
+
+mod verdicts;
+
+pub use verdicts::{Finding, Verdict};
