@@ -1,2 +1,3 @@
 pub mod Fitting
 pub mod Rises
+pub mod SameTail

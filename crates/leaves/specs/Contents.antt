@@ -1,15 +1,14 @@
 -- What a leaf holds, and its bytes.
-use Rattle.std.specs.Prelude.{◌≡◌, ℕ, ◌+◌, ◌^◌, ◌<◌, ◌≤◌, false, List, [], ◌∷◌, ◌++◌, map, length}
+use Rattle.std.specs.Prelude.{◌≡◌, ℕ, ◌+◌, ◌≤◌, List, [], ◌∷◌, ◌++◌, map, length}
 use Rattle.std.specs.List.{flat_map, All, AllPass}
 use Rattle.rows.specs.declared.tasks.Row.{Row}
-use Rattle.rows.specs.Answers.{Passes}
 use Rattle.rows.specs.Counting.{is_on_frame}
 use Rattle.rows.specs.Times.{most_rows}
 use Rattle.verdicts.specs.declared.verdicts.Finding.{Finding}
 use Rattle.leaves.specs.declared.entries.Heading.{Heading}
 use Rattle.leaves.specs.declared.entries.Entry.{Entry}
 use Rattle.leaves.specs.declared.entries.Entry.TheVariants.{Heading as heading, Row as row, Finding as finding, End as end}
-use Rattle.leaves.specs.Judging.{heading_checks, is_bad_finding}
+use Rattle.leaves.specs.Judging.{IsFilable}
 use Rattle.leaves.specs.Entries.{entry_bytes}
 
 -- the contents of a leaf: its heading, the rows in rank order, and the findings in the same order
@@ -30,14 +29,8 @@ bytes_of es = flat_map entry_bytes es
 abbrev pub encoding : Contents → List ℕ
 encoding c = bytes_of (entries c)
 
--- a finding that can be filed in so many bytes
-pub record IsFilable (f : Finding) : Type 0 where
-  pub good : is_bad_finding f ≡ false
-  pub fits : f.points < 2 ^ 32
-
--- contents that a leaf can hold: every number in its range, and as many findings as rows
+-- contents that a leaf can hold: few enough rows, all on the frame, and as many findings, all of which can be filed
 pub record IsLawful (c : Contents) : Type 0 where
-  pub heading : Passes (heading_checks c.heading 0)
   pub few : length c.rows ≤ most_rows
   pub on : AllPass (is_on_frame c.heading.frame) c.rows
   pub good : All IsFilable c.findings

@@ -1,4 +1,5 @@
 pub mod Bytes
+pub mod Headings
 pub mod Judging
 pub mod Entries
 pub mod Contents

@@ -1,14 +1,39 @@
 // What the entries of a leaf hold. A leaf is what the archive keeps about one survey.
-use findings::Finding;
-use rows::Row;
+ghost use Rattle.std.specs.Prelude.{◌≤◌};
+ghost use Rattle.rows.specs.Times.{horizon};
 
-/// The heading of a leaf, as plain numbers that nobody has judged: the frame, the bound by its
-/// number (0 exact steps, 1 linear tail), and the accuracy of the linear tail (0 for exact steps).
+use bounds::Supplied;
+use rows::Row;
+use verdicts::Finding;
+
+/// How many bytes the body of a heading has: an entry is one byte more, its letter.
+pub const HEADING_SIZE: usize = 6;
+
+/// How many bytes the body of a row has.
+pub const ROW_SIZE: usize = 16;
+
+/// How many bytes the body of a finding has.
+pub const FINDING_SIZE: usize = 8;
+
+/// How many bytes the body of the end has.
+pub const END_SIZE: usize = 4;
+
+/// The plain numbers of a heading, which nobody has judged: the frame, the bound by its number
+/// (0 exact steps, 1 linear tail), and the accuracy of the linear tail (0 for exact steps).
 #[derive(Clone, Copy, PartialEq, Eq, Debug)]
-pub struct Heading {
+pub struct HeadingNumbers {
     pub frame: u32,
     pub bound: u8,
     pub accuracy: u8,
+}
+
+/// The heading of a leaf, judged: its frame, and the bound by which its rows were counted.
+#[derive(Clone, Copy, PartialEq, Eq, Debug)]
+pub struct Heading {
+    pub frame: u32,
+    pub bound: Supplied,
+    pub ghost low: { 1 ≤ frame },
+    pub ghost near: { frame ≤ horizon },
 }
 
 /// An entry of a leaf: the heading, a row, the finding about a row, or the end with the number of

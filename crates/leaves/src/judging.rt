@@ -1,55 +1,58 @@
 // Which headings and findings can be filed.
 ghost use Rattle.std.specs.Prelude.{◌≡◌};
 ghost use Rattle.rows.specs.Answers.{answer, checked};
-ghost use Rattle.leaves.specs.Judging.{accuracy_fits, heading_checks, finding_checks};
+ghost use Rattle.leaves.specs.Headings.{bound_checks, heading_checks, heading_plain, told_bound};
+ghost use Rattle.leaves.specs.Judging.{finding_checks};
 
-use crate::entries::Heading;
-use bounds::FINEST;
-use findings::{Finding, Verdict};
+use crate::entries::{Heading, HeadingNumbers};
+use bounds::{LinearTail, Supplied};
 use rows::{Fault, HORIZON, Refusal, is_frame};
+use verdicts::{Finding, Verdict};
 
-// The number of the last bound that a heading can name.
-const LAST_BOUND: u8 = 1;
-
-impl Heading {
-    /// Whether the heading can be filed: bad frame, unknown bound, bad accuracy. A refusal tells the
-    /// position that the caller hands in.
-    pub fn judge(&self, at: u32) -> Result<(), Fault>
-        ensures { answer (λ u. u) result ≡ checked (heading_checks self.now at) tt }
+impl HeadingNumbers {
+    /// The heading of these numbers; refused with 1, bad frame, 20, unknown bound, or 3, bad
+    /// accuracy, in this order. A refusal tells the position that the caller hands in. docs/FORMAT.md
+    /// has the ranges.
+    pub fn judge(&self, at: u32) -> Result<Heading, Fault>
+        ensures { answer heading_plain result ≡ checked (heading_checks self.now at) self.now }
     {
         if !is_frame(self.frame) {
             return Err(Refusal::BadFrame.at(at));
         }
-        if self.bound > LAST_BOUND {
-            return Err(Refusal::UnknownBound.at(at));
-        }
-        if !self.has_accuracy() {
-            return Err(Refusal::BadAccuracy.at(at));
-        }
-        Ok(())
+        let bound = self.named_bound(at)?;
+        Ok(Heading {
+            frame: self.frame,
+            bound,
+        })
     }
 
-    // Whether the accuracy is one that the bound can have.
-    fn has_accuracy(&self) -> bool
-        ensures { result ≡ accuracy_fits self.now }
+    // The bound that the second and the third number name together.
+    fn named_bound(&self, at: u32) -> Result<Supplied, Fault>
+        ensures { answer told_bound result
+            ≡ checked (bound_checks self.now at) (self.now.bound, self.now.accuracy) }
     {
-        if self.bound == 0 {
-            return self.accuracy == 0;
+        match (self.bound, self.accuracy) {
+            (0, 0) => Ok(Supplied::ExactSteps),
+            (0, _) => Err(Refusal::BadAccuracy.at(at)),
+            (1, accuracy) => match LinearTail::new(u32::from(accuracy)) {
+                Ok(tail) => Ok(Supplied::LinearTail(tail)),
+                Err(fault) => Err(fault.refusal.at(at)),
+            },
+            _ => Err(Refusal::UnknownBound.at(at)),
         }
-        1 <= self.accuracy && u32::from(self.accuracy) <= FINEST
     }
 }
 
-/// Whether a finding can be filed: it has points, and a first rest lies from 1 to the horizon. A
-/// refusal tells the position that the caller hands in.
+/// Whether a finding can be filed: it has points, and a first rest lies from 1 to the horizon; else
+/// 17, bad finding, at the position that the caller hands in. docs/FORMAT.md has the ranges.
 pub fn judge_finding(finding: &Finding, at: u32) -> Result<(), Fault>
     ensures { answer (λ u. u) result ≡ checked (finding_checks finding.now at) tt }
 {
-    let rests = match finding.verdict {
+    let in_range = match finding.verdict {
         Verdict::Meets(rest) => 1 <= rest && rest <= HORIZON,
         Verdict::Misses => true,
     };
-    if finding.points == 0 || !rests {
+    if finding.points == 0 || !in_range {
         return Err(Refusal::BadFinding.at(at));
     }
     Ok(())

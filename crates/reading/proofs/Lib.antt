@@ -1,6 +1,8 @@
-pub mod Turns
-pub mod Standing
+pub mod Taking
+pub mod Fields
+pub mod Steps
+pub mod Runs
+pub mod Contents
+pub mod Once
 pub mod Walks
-pub mod Wholes
-pub mod Passing
 pub mod Parts

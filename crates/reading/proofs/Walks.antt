@@ -1,63 +1,85 @@
--- Runs of entries: one entry more, and that no bytes can be read in two ways.
-use Rattle.std.proofs.Common.{◌≡◌, ℕ, ◌+◌, List, [], ◌∷◌, ◌++◌, length, Some, sym, refl, ap, ◌∙◌, subst, ap₂, arith}
-use Rattle.std.proofs.lemmas.List.{append_assoc, append_cancel_left, append-nil, length-append}
-use Rattle.rows.specs.Answers.{gives}
+-- A reader on its way through a leaf, and where it stops.
+use Rattle.std.proofs.Common.{◌≡◌, ℕ, ◌<◌, true, false, List, [], ◌∷◌, ◌++◌, length, is_some, Some, None, Option, sym, refl, ap, ◌∙◌, subst, arith}
+use Rattle.std.proofs.lemmas.List.{append-nil, length-append}
+use Rattle.std.proofs.lemmas.Bool.{false≢true}
+use Rattle.rows.specs.Answers.{gives, refuses, first_refusal}
 use Rattle.leaves.specs.declared.entries.Entry.{Entry}
+use Rattle.leaves.specs.declared.entries.Entry.TheVariants.{Heading as heading, Row as row, Finding as finding, End as end}
 use Rattle.leaves.specs.Entries.{entry_bytes}
-use Rattle.leaves.specs.Contents.{bytes_of}
+use Rattle.leaves.specs.Contents.{Contents, bytes_of}
 use Rattle.reading.specs.declared.phases.Phase.{Phase}
-use Rattle.reading.specs.Phases.{place_of, after}
-use Rattle.reading.specs.Stepping.{next_answer}
-use Rattle.reading.specs.Runs.{Stands, WellFormed, after_all}
-use Rattle.reading.proofs.Standing.{Sound, sound_after, placed_after, given}
+use Rattle.reading.specs.declared.phases.Phase.TheVariants.{Opening, Rows, Findings, Closed}
+use Rattle.reading.specs.Checks.{next_checks}
+use Rattle.reading.specs.Grammar.{Run, stays}
+use Rattle.reading.specs.Phases.{place_of, is_closed}
+use Rattle.reading.specs.Stepping.{Reading, TakesEntry, Takes}
+use Rattle.reading.specs.Whole.{IsRefusedAt, Fits}
+use Rattle.reading.proofs.Contents.{closing}
+use Rattle.reading.proofs.Runs.{run_push, bytes_push, run_place}
 
--- one entry more
-pub well_push : (p : Phase) (es : List Entry) (e : Entry) → WellFormed p es → Stands (after_all p es) e → WellFormed p (es ++ e ∷ [])
-well_push p [] e well here = (here, tt)
-well_push p (x ∷ es) e well here = (well.0, well_push (after p x) es e well.1 here)
+-- a reader of the bytes has come here: a run leads from the opening to its phase, and its bytes stand before those left
+pub record HasRead (bytes : List ℕ) (here : Reading) : Type 0 where
+  pub before : List Entry
+  pub split : bytes ≡ bytes_of before ++ here.left
+  pub run : Run Opening before here.phase
 
-pub after_push : (p : Phase) (es : List Entry) (e : Entry) → after_all p (es ++ e ∷ []) ≡ after (after_all p es) e
-after_push p [] e = refl
-after_push p (x ∷ es) e = after_push (after p x) es e
+-- a reader before the first byte has read nothing
+pub read_none : (bytes : List ℕ) → HasRead bytes (record { phase = Opening; left = bytes })
+read_none bytes = record { before = []; split = refl; run = stays }
 
-pub bytes_push : (es : List Entry) (e : Entry) (rest : List ℕ) → bytes_of es ++ (entry_bytes e ++ rest) ≡ bytes_of (es ++ e ∷ []) ++ rest
-bytes_push [] e rest = ap (λ b. b ++ rest) (sym (append-nil (entry_bytes e)))
-bytes_push (x ∷ es) e rest =
-    append_assoc (entry_bytes x) (bytes_of es) (entry_bytes e ++ rest) ∙ ap (λ b. entry_bytes x ++ b) (bytes_push es e rest)
-    ∙ sym (append_assoc (entry_bytes x) (bytes_of (es ++ e ∷ [])) rest)
+module _ (bytes : List ℕ) (here next : Reading) (has : HasRead bytes here) where
+  -- it has read one entry more
+  read_more : (e : Entry) → TakesEntry here e next → HasRead bytes next
+  read_more e taken = record {
+    before = has.before ++ e ∷ [];
+    split = has.split ∙ ap (λ xs. bytes_of has.before ++ xs) taken.split ∙ bytes_push has.before e next.left;
+    run = run_push has.run taken.step;
+  }
 
--- a reader after well-formed entries is sound, and placed after their bytes
-pub sound_all : (p : Phase) (es : List Entry) → Sound p → WellFormed p es → Sound (after_all p es)
-sound_all p [] sound well = sound
-sound_all p (e ∷ es) sound well = sound_all (after p e) es (sound_after p e sound well.0) well.1
+  pub read_on : (o : Option Entry) → Takes here o next → is_some o ≡ true → HasRead bytes next
+  read_on None taken some = absurd (false≢true some)
+  read_on (Some e) taken some = read_more e taken
 
-pub placed_all : (p : Phase) (es : List Entry) → Sound p → WellFormed p es → place_of p + length (bytes_of es) ≡ place_of (after_all p es)
-placed_all p [] sound well = omega arith
-placed_all p (e ∷ es) sound well =
-    let here = placed_after p e sound well.0 in
-    let later = placed_all (after p e) es (sound_after p e sound well.0) well.1 in
-    omega (arith, length-append (entry_bytes e) (bytes_of es))
+  -- and has fewer bytes left
+  pub fewer_left : (o : Option Entry) → Takes here o next → is_some o ≡ true → length next.left < length here.left
+  fewer_left None taken some = absurd (false≢true some)
+  fewer_left (Some e) taken some = omega (arith, ap length taken.split, length-append (entry_bytes e) next.left, some_bytes e)
+    where
+      some_bytes : (e : Entry) → 0 < length (entry_bytes e)
+      some_bytes (heading h) = omega arith
+      some_bytes (row r) = omega arith
+      some_bytes (finding f) = omega arith
+      some_bytes (end k) = omega arith
 
--- at a place, no entry comes next
-abbrev pub Stuck : Phase → ℕ → List ℕ → Type 0
-Stuck p at rest = (e : Entry) → next_answer p at rest ≡ gives (Some e) → ⊥
+-- where a check refuses, the refusal fits
+pub read_refused : (bytes : List ℕ) (here : Reading) → HasRead bytes here → (n at : ℕ) → refuses n at ≡ first_refusal (next_checks here.phase (place_of here.phase) here.left) → IsRefusedAt bytes n at
+read_refused bytes here has n at refused = record {
+  before = has.before;
+  phase = here.phase;
+  left = here.left;
+  split = has.split;
+  run = has.run;
+  fails = ap (λ p. first_refusal (next_checks here.phase p here.left)) (omega (arith, run_place has.run)) ∙ sym refused;
+}
 
--- well-formed entries after which no entry comes next are the only ones
-pub same_run : (p : Phase) (at : ℕ) (es fs : List Entry) (rest more : List ℕ) → Sound p → WellFormed p es → WellFormed p fs
-    → Stuck (after_all p es) (at + length (bytes_of es)) rest → Stuck (after_all p fs) (at + length (bytes_of fs)) more → bytes_of es ++ rest ≡ bytes_of fs ++ more → (es ≡ fs) × (rest ≡ more)
-same_run p at [] [] rest more sound well fell stuck held same = (refl, same)
-same_run p at [] (f ∷ fs) rest more sound well fell stuck held same =
-    absurd (stuck f (ap (next_answer p (at + 0)) (same ∙ append_assoc (entry_bytes f) (bytes_of fs) more) ∙ given p f (at + 0) (bytes_of fs ++ more) sound fell.0))
-same_run p at (e ∷ es) [] rest more sound well fell stuck held same =
-    absurd (held e (ap (next_answer p (at + 0)) (sym same ∙ append_assoc (entry_bytes e) (bytes_of es) rest) ∙ given p e (at + 0) (bytes_of es ++ rest) sound well.0))
-same_run p at (e ∷ es) (f ∷ fs) rest more sound well fell stuck held same =
-    let split = sym (append_assoc (entry_bytes e) (bytes_of es) rest) ∙ same ∙ append_assoc (entry_bytes f) (bytes_of fs) more in
-    let both = sym (given p e at (bytes_of es ++ rest) sound well.0) ∙ ap (next_answer p at) split ∙ given p f at (bytes_of fs ++ more) sound fell.0 in
-    let one : e ≡ f = cc in
-    let left = append_cancel_left (entry_bytes e) _ _ (split ∙ ap (λ x. entry_bytes x ++ (bytes_of fs ++ more)) (sym one)) in
-    let place : (xs : List Entry) → at + length (entry_bytes e ++ bytes_of xs) ≡ at + length (entry_bytes e) + length (bytes_of xs) = λ xs. omega (arith, length-append (entry_bytes e) (bytes_of xs)) in
-    let fell' = subst (λ x. WellFormed (after p x) fs) (sym one) fell.1 in
-    let held' = subst (λ x. Stuck (after_all (after p x) fs) (at + length (entry_bytes x ++ bytes_of fs)) more) (sym one) held in
-    let later = same_run (after p e) (at + length (entry_bytes e)) es fs rest more (sound_after p e sound well.0) well.1 fell'
-    (subst (λ n. Stuck (after_all (after p e) es) n rest) (place es) stuck) (subst (λ n. Stuck (after_all (after p e) fs) n more) (place fs) held') left in
-    (ap₂ ◌∷◌ one later.0, later.1)
+-- where nothing comes, contents fit, of which the phase tells the heading and the number of rows
+pub record HasEnded (bytes : List ℕ) (p : Phase) : Type 0 where
+  pub contents : Contents
+  pub fits : Fits bytes (gives contents)
+  pub closed : p ≡ Closed contents.heading (length contents.rows)
+
+pub read_ended : (bytes : List ℕ) (here next : Reading) → HasRead bytes here → (o : Option Entry) → Takes here o next → is_some o ≡ false → HasEnded bytes next.phase
+read_ended bytes here next has (Some e) taken none = absurd (false≢true (sym none))
+read_ended bytes here next has None taken none = subst (λ r. HasEnded bytes r.phase) (sym taken.2) (at here.phase has.run taken.0)
+  where
+    at : (p : Phase) → Run Opening has.before p → is_closed p ≡ true → HasEnded bytes p
+    at Opening run closed = absurd (false≢true closed)
+    at (Rows h n) run closed = absurd (false≢true closed)
+    at (Findings h n m) run closed = absurd (false≢true closed)
+    at (Closed h n) run closed =
+        let c = closing run in
+        record {
+          contents = c.contents;
+          fits = (c.lawful, has.split ∙ ap (λ xs. bytes_of has.before ++ xs) taken.1 ∙ append-nil (bytes_of has.before) ∙ ap bytes_of c.same);
+          closed = sym (ap (λ g. Closed g (length c.contents.rows)) c.head ∙ ap (Closed h) c.total);
+        }

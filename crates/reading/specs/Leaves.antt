@@ -1,5 +1,5 @@
 -- What a leaf that was read holds.
-use Rattle.std.specs.Prelude.{◌≡◌, ℕ, List, ◌++◌, map, length, Ok, Err, Result}
+use Rattle.std.specs.Prelude.{◌≡◌, ℕ, List, ◌++◌, map, Ok, Err, Result}
 use Rattle.rows.specs.declared.refusals.Fault.{Fault}
 use Rattle.rows.specs.Answers.{Answer, gives, refuses}
 use Rattle.rows.specs.Refusals.{number}
@@ -7,17 +7,28 @@ use Rattle.leaves.specs.declared.entries.Heading.{Heading}
 use Rattle.leaves.specs.declared.entries.Entry.TheVariants.{Heading as heading, Row as row, Finding as finding}
 use Rattle.leaves.specs.Entries.{entry_bytes}
 use Rattle.leaves.specs.Contents.{Contents, bytes_of}
-use Rattle.reading.specs.declared.contents.Leaf.{Leaf}
+use Rattle.reading.specs.declared.whole.Leaf.{Leaf}
 
--- a leaf holds contents: it has their heading, and its parts are the bytes of their rows and of their findings
+-- the heading of a leaf that was read
+abbrev pub heading_of : Leaf → Heading
+heading_of leaf = leaf.heading
+
+-- the bytes of its rows, and those of its findings
+abbrev pub row_run : Leaf → List ℕ
+row_run leaf = leaf.rows.now
+
+abbrev pub finding_run : Leaf → List ℕ
+finding_run leaf = leaf.findings.now
+
+-- a leaf holds contents: it has their heading, and its runs are the bytes of their rows and of their findings
 pub record Holds (leaf : Leaf) (c : Contents) : Type 0 where
-  pub head : leaf.heading ≡ c.heading
-  pub rows : leaf.rows.now ≡ bytes_of (map row c.rows)
-  pub findings : leaf.findings.now ≡ bytes_of (map finding c.findings)
+  pub head : heading_of leaf ≡ c.heading
+  pub rows : row_run leaf ≡ bytes_of (map row c.rows)
+  pub findings : finding_run leaf ≡ bytes_of (map finding c.findings)
 
--- the parts of a leaf stand in the bytes that it was read from, one after the other
-abbrev pub Parts : List ℕ → Leaf → Type 0
-Parts bytes leaf = (rest : List ℕ) × (bytes ≡ entry_bytes (heading leaf.heading) ++ (leaf.rows.now ++ (leaf.findings.now ++ rest)))
+-- the runs of a leaf stand in the bytes that it was read from, one after the other
+abbrev pub ArePartsOf : List ℕ → Leaf → Type 0
+ArePartsOf bytes leaf = (end : List ℕ) × (bytes ≡ entry_bytes (heading (heading_of leaf)) ++ (row_run leaf ++ (finding_run leaf ++ end)))
 
 -- what reading answers is the answer: a leaf that holds the contents, or the refusal by its number and place
 abbrev pub Reads : Result Leaf Fault → Answer Contents → Type 0
@@ -25,10 +36,3 @@ Reads (Ok leaf) (gives c) = Holds leaf c
 Reads (Ok leaf) (refuses n at) = ⊥
 Reads (Err e) (gives c) = ⊥
 Reads (Err e) (refuses n at) = (number e.refusal ≡ n) × (e.at ≡ at)
-
--- the same of the heading and the number of rows alone
-abbrev pub Counted : Result (Heading × ℕ) Fault → Answer Contents → Type 0
-Counted (Ok told) (gives c) = (told.0 ≡ c.heading) × (told.1 ≡ length c.rows)
-Counted (Ok told) (refuses n at) = ⊥
-Counted (Err e) (gives c) = ⊥
-Counted (Err e) (refuses n at) = (number e.refusal ≡ n) × (e.at ≡ at)

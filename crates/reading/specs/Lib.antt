@@ -1,9 +1,6 @@
 pub mod Phases
-pub mod Readers
-pub mod Fields
-pub mod Kinds
+pub mod Grammar
+pub mod Checks
 pub mod Stepping
-pub mod Runs
-pub mod Passed
 pub mod Whole
 pub mod Leaves

@@ -1,5 +1,8 @@
 // How far a leaf has been read.
-use leaves::Heading;
+ghost use Rattle.std.specs.Prelude.{◌≡◌};
+ghost use Rattle.leaves.specs.Entries.{finding_place};
+
+use leaves::{FINDING_SIZE, HEADING_SIZE, Heading, ROW_SIZE};
 
 /// The phase of a reader: before the heading; in the rows, with the heading and the number of rows
 /// so far; in the findings, with the number of those too; or closed, after the end of a leaf of so
@@ -20,4 +23,13 @@ pub enum Phase {
         heading: Heading,
         rows: u8,
     },
+}
+
+// Where an entry begins after the heading, so many rows and so many findings.
+pub(crate) fn place_after(rows: u8, findings: u8) -> u32
+    ensures { result ≡ finding_place rows findings }
+{
+    let rows = usize::from(rows) * (1 + ROW_SIZE);
+    let findings = usize::from(findings) * (1 + FINDING_SIZE);
+    (1 + HEADING_SIZE + rows + findings) as u32
 }

@@ -1,17 +1,122 @@
 // A reader of leaves.
-ghost use Rattle.std.specs.Prelude.{◌≡◌, ◌≤◌};
-ghost use Rattle.rows.specs.Times.{most_rows};
-ghost use Rattle.reading.specs.Phases.{place_of, rows_in, findings_in};
+use crate::entries::{Taken, end_entry, finding_entry, heading_entry, row_entry};
+use crate::phases::{Phase, place_after};
+use leaves::{END_SIZE, Entry};
+use rows::{Fault, Refusal};
+use std::marker::Model;
 
-use crate::phases::Phase;
-
-/// A reader over lent bytes: those that are left, the place of the first of them, and the phase.
-#[derive(Clone, Copy)]
+/// A reader over lent bytes. Callers see its phase and the bytes that are left.
+#[derive(Drop)]
 pub struct Reader<'a> {
-    pub(crate) rest: &'a [u8],
-    pub(crate) place: u32,
-    pub(crate) phase: Phase,
-    ghost placed: { place ≡ place_of phase },
-    ghost few: { rows_in phase ≤ most_rows },
-    ghost orderly: { findings_in phase ≤ rows_in phase },
+    left: &'a [u8],
+    phase: Phase,
+}
+
+impl<'a> Model for Reader<'a> {
+    ghost use Rattle.reading.specs.Phases.{IsSound};
+    ghost use Rattle.reading.specs.Stepping.{Reading, reading};
+
+    ghost Value = { Reading };
+
+    ghost view = { λ r. reading r.phase r.left.now };
+
+    ghost invariant = { λ r. IsSound r.phase };
+}
+
+impl<'a> Reader<'a> {
+    ghost use Rattle.std.specs.Prelude.{◌≡◌, IfOk, OnErr, MatchOption, true, []};
+    ghost use Rattle.rows.specs.Answers.{refusal, first_refusal};
+    ghost use Rattle.reading.specs.Checks.{next_checks};
+    ghost use Rattle.reading.specs.Phases.{is_closed, place_of};
+    ghost use Rattle.reading.specs.Stepping.{TakesEntry, Takes, reading};
+
+    /// A reader before the first of the bytes.
+    pub fn new(bytes: &'a [u8]) -> Reader<'a>
+        ensures { result ≡ reading Phase.Opening bytes.now }
+    {
+        Reader {
+            left: bytes,
+            phase: Phase::Opening,
+        }
+    }
+
+    /// Where the next entry begins: the offset of its kind byte in the bytes of the leaf.
+    pub fn place(&self) -> u32
+        ensures { result ≡ place_of self.now.phase }
+    {
+        match self.phase {
+            Phase::Opening => 0,
+            Phase::Rows { rows, .. } => place_after(rows, 0),
+            Phase::Findings { rows, findings, .. } => place_after(rows, findings),
+            Phase::Closed { rows, .. } => place_after(rows, rows) + 1 + END_SIZE as u32,
+        }
+    }
+
+    /// How far the leaf has been read.
+    pub fn phase(&self) -> Phase
+        ensures { result ≡ self.now.phase }
+    {
+        self.phase
+    }
+
+    /// The next entry; none after the end. A refusal tells the first check that fails at the place
+    /// (docs/FORMAT.md has their order) and leaves the reader as it was.
+    pub fn next_entry(&mut self) -> Result<Option<Entry>, Fault>
+        ensures answered { refusal result
+            ≡ first_refusal (next_checks self.old.phase (place_of self.old.phase) self.old.left) }
+        ensures taken { IfOk result (λ o. Takes self.old o self.new) }
+        ensures refused { OnErr result (self.new ≡ self.old) }
+    {
+        match self.taken()? {
+            None => Ok(None),
+            Some(taken) => {
+                self.left = taken.left;
+                self.phase = taken.phase;
+                Ok(Some(taken.entry))
+            }
+        }
+    }
+
+    // What comes next: the phase and the kind of the entry decide together how it is read.
+    fn taken(&self) -> Result<Option<Taken<'a>>, Fault>
+        ensures answered { refusal result
+            ≡ first_refusal (next_checks self.now.phase (place_of self.now.phase) self.now.left) }
+        ensures taken { IfOk result (λ o. MatchOption o
+            ((is_closed self.now.phase ≡ true) × (self.now.left ≡ []))
+            (λ t. TakesEntry self.now t.entry (reading t.phase t.left.now))) }
+    {
+        let at = self.place();
+        let Some((kind, body)) = self.left.split_first() else {
+            return match self.phase {
+                Phase::Closed { .. } => Ok(None),
+                _ => Err(Refusal::CutLeaf.at(at)),
+            };
+        };
+        let taken = match (self.phase, *kind) {
+            (Phase::Closed { .. }, _) => return Err(Refusal::LooseBytes.at(at)),
+            (Phase::Opening, b'F') => heading_entry(body, at)?,
+            (Phase::Rows { heading, rows }, b'R') => row_entry(body, at, heading, rows)?,
+            (Phase::Rows { heading, rows }, b'A') => finding_entry(body, at, heading, rows, 0)?,
+            (Phase::Rows { heading, rows }, b'Z') => end_entry(body, at, heading, rows, 0)?,
+            (
+                Phase::Findings {
+                    heading,
+                    rows,
+                    findings,
+                },
+                b'A',
+            ) => finding_entry(body, at, heading, rows, findings)?,
+            (
+                Phase::Findings {
+                    heading,
+                    rows,
+                    findings,
+                },
+                b'Z',
+            ) => end_entry(body, at, heading, rows, findings)?,
+            (_, b'F' | b'R' | b'A' | b'Z') => return Err(Refusal::OutOfTurn.at(at)),
+            _ => return Err(Refusal::StrangeLetter.at(at)),
+        };
+        Ok(Some(taken))
+    }
 }

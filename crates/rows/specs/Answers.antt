@@ -14,6 +14,10 @@ abbrev pub answer : {X A : Type 0} → (X → A) → Result X Fault → Answer A
 answer f (Ok x) = gives (f x)
 answer f (Err e) = refuses (number e.refusal) e.at
 
+-- the same with the value left out: that there is no refusal, or the refusal
+abbrev pub refusal : {X : Type 0} → Result X Fault → Answer (Unit {0})
+refusal r = answer (λ _. tt) r
+
 -- a check: the number of its refusal, and the position that it tells where something is wrong
 pub record Check : Type 0 where
   pub refusal : ℕ
@@ -37,6 +41,10 @@ abbrev pub checked : {A : Type 0} → List Check → A → Answer A
 checked [] x = gives x
 checked (c ∷ cs) x = refuses_at c.refusal c.at (checked cs x)
 
+-- the same with nothing to give: that no check refuses, or the refusal
+abbrev pub first_refusal : List Check → Answer (Unit {0})
+first_refusal cs = checked cs tt
+
 -- none of the checks finds anything wrong
 abbrev pub Passes : List Check → Type 0
-Passes cs = gives tt ≡ checked {A = Unit {0}} cs tt
+Passes cs = gives tt ≡ first_refusal cs

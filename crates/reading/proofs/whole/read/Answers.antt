@@ -1,46 +1,60 @@
-use Rattle.std.proofs.Common.{◌≡◌, ◌+◌, ◌-◌, ◌*◌, map, take, drop, ap, ap₂, ◌∙◌, subst, Err, arith}
+use Rattle.std.proofs.Common.{◌≡◌, ◌-◌, take, drop, Ok, Err, sym, refl, ap₂, ◌∙◌, subst, arith}
 use Rattle.std.proofs.lemmas.Result.{err_from_is_err_and}
-use Rattle.rows.specs.Answers.{gives}
-use Rattle.leaves.specs.declared.entries.Entry.TheVariants.{Row as row, Finding as finding}
-use Rattle.leaves.specs.Contents.{bytes_of}
-use Rattle.reading.specs.Leaves.{Reads}
-use Rattle.reading.proofs.Parts.{counted_fits, refused_reads, in_parts, held_parts, leaf_reads, holding}
-use Rattle.reading.proofs.Wholes.{fits_once}
+use Rattle.rows.specs.Answers.{gives, refuses}
+use Rattle.rows.specs.Refusals.{number}
+use Rattle.leaves.specs.Entries.{row_place, finding_place}
+use Rattle.reading.specs.Leaves.{Holds}
+use Rattle.reading.proofs.Once.{fits_once, reads_each}
+use Rattle.reading.proofs.Parts.{IsRead, is_read, stand_in}
+use Rattle.reading.proofs.Walks.{HasRead, read_none, read_on, read_refused, read_ended}
 use Rattle.reading.proofs.whole.read.Goals as goal
+use Rattle.reading.proofs.whole.read.Goals.{In-Closed}
 
-pub returns-in_err-heading : goal.returns-in_err-heading
-returns-in_err-heading c =
+pub loop-init : goal.loop-init
+loop-init c = subst (HasRead c.args.bytes.now) (sym c.new-reader.ensures) (read_none c.args.bytes.now)
+
+pub loop-preserved : goal.loop-preserved
+loop-preserved c = read_on c.args.bytes.now c.loop.reader c.next_entry.new.self c.loop.invariant c.in_ok-next_entry.field-0 c.in_ok-next_entry.ensures.taken (sym c.if-is_some.ensures)
+
+pub returns-in_err-next_entry : goal.returns-in_err-next_entry
+returns-in_err-next_entry c =
     let bytes = c.args.bytes.now in
-    let fault = c.in_err-heading.field-0.0 in
+    let fault = c.in_err-next_entry.field-0.0 in
     let p = err_from_is_err_and c.from_residual.result c.from_residual.ensures.1 in
-    let counted = c.in_err-heading.ensures in
-    let reads = refused_reads fault counted.0 counted.2 in
-    rw (p.1, p.2)
-    (record { fits = (counted.0, counted.1, reads); only = λ a fits. subst (Reads (Err fault)) (fits_once bytes counted.0 a counted.1 fits) reads; once = fits_once; parts = tt })
+    let refused = read_refused bytes c.loop.reader c.loop.invariant (number fault.refusal) fault.at c.in_err-next_entry.ensures.answered in
+    rw (p.1, p.2) (record {
+      fits = (refuses (number fault.refusal) fault.at, refused, (refl, refl));
+      only = reads_each bytes (Err fault) (refuses (number fault.refusal) fault.at) refused (refl, refl);
+      once = fits_once;
+      parts = tt;
+    })
+
+-- the leaf that was read
+the_leaf : (c : In-Closed) → IsRead c.args.bytes.now c.in-Closed.heading c.in-Closed.rows
+the_leaf c =
+    is_read c.args.bytes.now c.in-Closed.heading c.in-Closed.rows c.next_entry.new.self.phase c.in-Closed.ensures
+    (read_ended c.args.bytes.now c.loop.reader c.next_entry.new.self c.loop.invariant c.in_ok-next_entry.field-0 c.in_ok-next_entry.ensures.taken (sym c.if-is_some.ensures))
 
 pub slice_bounds-result-end : goal.slice_bounds-result-end
-slice_bounds-result-end c =
-    let told = counted_fits c.args.bytes.now c.in_ok-heading.heading c.in_ok-heading.rows c.in_ok-heading.ensures in
-    let parts = in_parts c.args.bytes.now told.0 c.in_ok-heading.rows told.1 told.3 in
-    omega (arith, parts.size)
+slice_bounds-result-end c = let leaf = the_leaf (goal.at.slice_bounds-result-end c).In-Closed in omega (arith, leaf.parts.size, c.place_after-findings_from.ensures)
 
 pub slice_bounds-result-end-2 : goal.slice_bounds-result-end-2
-slice_bounds-result-end-2 c =
-    let told = counted_fits c.args.bytes.now c.in_ok-heading.heading c.in_ok-heading.rows c.in_ok-heading.ensures in
-    let parts = in_parts c.args.bytes.now told.0 c.in_ok-heading.rows told.1 told.3 in
-    omega (arith, parts.size)
+slice_bounds-result-end-2 c = let leaf = the_leaf (goal.at.slice_bounds-result-end-2 c).In-Closed in omega (arith, leaf.parts.size, c.place_after-findings_to.ensures)
 
 pub returns : goal.returns
 returns c =
     let bytes = c.args.bytes.now in
-    let told = counted_fits bytes c.in_ok-heading.heading c.in_ok-heading.rows c.in_ok-heading.ensures in
-    let parts = in_parts bytes told.0 c.in_ok-heading.rows told.1 told.3 in
-    let rows : take (7 + 17 * c.from.result - 7) (drop 7 bytes) ≡ bytes_of (map row told.0.rows) = ap (λ n. take n (drop 7 bytes)) (omega arith) ∙ parts.rows in
-    let findings : take (7 + 17 * c.from.result + 9 * c.from-2.result - (7 + 17 * c.from.result)) (drop (7 + 17 * c.from.result) bytes) ≡ bytes_of (map finding told.0.findings) =
-    ap₂ (λ m n. take n (drop m bytes)) (omega arith) (omega arith) ∙ parts.findings in
+    let leaf = the_leaf (goal.at.returns c).In-Closed in
+    let n = c.in-Closed.rows in
+    let from : c.place_after-findings_from.result ≡ row_place n = omega (arith, c.place_after-findings_from.ensures) in
+    let rows : take (c.place_after-findings_from.result - c.place_after-rows_from.result) (drop c.place_after-rows_from.result bytes) ≡ take (row_place n - row_place 0) (drop (row_place 0) bytes) =
+    ap₂ (λ i j. take (j - i) (drop i bytes)) c.place_after-rows_from.ensures from in
+    let findings : take (c.place_after-findings_to.result - c.place_after-findings_from.result) (drop c.place_after-findings_from.result bytes) ≡ take (finding_place n n - row_place n) (drop (row_place n) bytes) =
+    ap₂ (λ i j. take (j - i) (drop i bytes)) from c.place_after-findings_to.ensures in
+    let holds : Holds _ leaf.contents = record { head = leaf.head; rows = rows ∙ leaf.parts.rows; findings = findings ∙ leaf.parts.findings } in
     record {
-      fits = (gives told.0, told.1, holding told.2 rows findings);
-      only = leaf_reads bytes told.0 _ told.1 (holding told.2 rows findings);
+      fits = (gives leaf.contents, leaf.fits, holds);
+      only = reads_each bytes (Ok _) (gives leaf.contents) leaf.fits holds;
       once = fits_once;
-      parts = held_parts parts c.in_ok-heading.heading _ _ told.2 rows findings;
+      parts = stand_in leaf _ _ rows findings;
     }

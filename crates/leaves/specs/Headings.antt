@@ -1,0 +1,35 @@
+-- Headings, and the plain numbers that are one.
+use Rattle.std.specs.Prelude.{ℕ, Bool, not, List, [], ◌∷◌, ◌==◌, nat_lt, if◌then◌else◌}
+use Rattle.rows.specs.Answers.{Check, check}
+use Rattle.rows.specs.Times.{is_frame}
+use Rattle.bounds.specs.declared.supplied.Supplied.{Supplied}
+use Rattle.bounds.specs.declared.supplied.Supplied.TheVariants.{ExactSteps as exact, LinearTail as tail}
+use Rattle.bounds.specs.Meaning.{is_accuracy}
+use Rattle.bounds.specs.Values.{accuracy_of}
+use Rattle.leaves.specs.declared.entries.Heading.{Heading}
+use Rattle.leaves.specs.declared.entries.HeadingNumbers.{HeadingNumbers}
+
+-- a bound as a heading tells it: its number, and its accuracy, which exact steps do not tell
+abbrev pub told_bound : Supplied → ℕ × ℕ
+told_bound exact = (0, 0)
+told_bound (tail t) = (1, accuracy_of t)
+
+-- the numbers of a heading
+abbrev pub heading_plain : Heading → HeadingNumbers
+heading_plain h = record { frame = h.frame; bound = (told_bound h.bound).0; accuracy = (told_bound h.bound).1 }
+
+-- the number of the last bound that a heading can name
+abbrev pub last_bound : ℕ
+last_bound = 1
+
+-- the accuracy is one that the bound can have: 0 for exact steps, which tell none; any for the linear tail
+abbrev pub has_accuracy : HeadingNumbers → Bool
+has_accuracy n = if n.bound == 0 then n.accuracy == 0 else is_accuracy n.accuracy
+
+-- what is checked of the bound that numbers name, in order: unknown bound, bad accuracy
+abbrev pub bound_checks : HeadingNumbers → ℕ → List Check
+bound_checks n at = check (nat_lt last_bound n.bound) 20 at ∷ check (not (has_accuracy n)) 3 at ∷ []
+
+-- what is checked of the numbers of a heading: bad frame, and then the bound
+abbrev pub heading_checks : HeadingNumbers → ℕ → List Check
+heading_checks n at = check (not (is_frame n.frame)) 1 at ∷ bound_checks n at

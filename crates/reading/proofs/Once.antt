@@ -1,0 +1,56 @@
+-- At most one answer fits a string of bytes.
+use Rattle.std.proofs.Common.{◌≡◌, ℕ, List, [], ◌++◌, length, sym, ap, ◌∙◌, ap₂, subst, Result}
+use Rattle.std.proofs.lemmas.List.{append-nil}
+use Rattle.rows.specs.declared.refusals.Fault.{Fault}
+use Rattle.rows.specs.Answers.{Answer, gives, refuses, first_refusal}
+use Rattle.leaves.specs.declared.entries.Entry.{Entry}
+use Rattle.leaves.specs.Contents.{Contents, entries, bytes_of, encoding}
+use Rattle.reading.specs.declared.phases.Phase.{Phase}
+use Rattle.reading.specs.declared.phases.Phase.TheVariants.{Opening, Closed}
+use Rattle.reading.specs.Checks.{next_checks}
+use Rattle.reading.specs.Grammar.{Run}
+use Rattle.reading.specs.Whole.{IsRefusedAt, Fits, FitsOnce}
+use Rattle.reading.specs.declared.whole.Leaf.{Leaf}
+use Rattle.reading.specs.Leaves.{Reads}
+use Rattle.reading.proofs.Steps.{opening_sound, step_passes, closed_stuck}
+use Rattle.reading.proofs.Runs.{run_sound, IsStuck, run_once}
+use Rattle.reading.proofs.Contents.{lawful_run, same_contents}
+
+-- after a refusal no entry can come
+refused_stuck : {bytes : List ℕ} {n place : ℕ} (r : IsRefusedAt bytes n place) → IsStuck r.phase r.left
+refused_stuck r e q more step split =
+    let passes = ap (λ xs. first_refusal (next_checks r.phase (length (bytes_of r.before)) xs)) split ∙ step_passes step (run_sound r.run opening_sound) (length (bytes_of r.before)) more in
+    let both = sym r.fails ∙ passes in
+    cc
+
+-- what fits contents, beside another run
+module _ (bytes : List ℕ) (c : Contents) (fits : Fits bytes (gives c)) {es : List Entry} {p : Phase} (left : List ℕ) (split : bytes ≡ bytes_of es ++ left) (run : Run Opening es p) (stuck : IsStuck p left) where
+  beside : (entries c ≡ es) × (Closed c.heading (length c.rows) ≡ p) × ([] ≡ left)
+  beside = run_once (lawful_run c fits.0) run opening_sound [] left (λ e q more step split. closed_stuck step) stuck (append-nil (encoding c) ∙ sym fits.1 ∙ split)
+
+-- contents and a refusal do not both fit
+not_both : (bytes : List ℕ) (c : Contents) (n at : ℕ) → Fits bytes (gives c) → IsRefusedAt bytes n at → ⊥
+not_both bytes c n at fits r =
+    let both = beside bytes c fits r.left r.split r.run (refused_stuck r) in
+    let none = ap₂ (λ p xs. first_refusal (next_checks p (length (bytes_of r.before)) xs)) both.1 both.2 in
+    let fails = none ∙ r.fails in
+    cc
+
+-- a refusal is known by its number and its place
+again : {A B : Type 0} (n at m to : ℕ) → ◌≡◌ {A = Answer A} (refuses n at) (refuses m to) → ◌≡◌ {A = Answer B} (refuses n at) (refuses m to)
+again n at m to same = let number : n ≡ m = cc in let place : at ≡ to = cc in ap₂ refuses number place
+
+pub fits_once : FitsOnce
+fits_once bytes (gives c) (gives d) fits also =
+    ap gives (same_contents c d (beside bytes c fits [] (also.1 ∙ sym (append-nil (encoding d))) (lawful_run d also.0) (λ e q more step split. closed_stuck step)).0)
+fits_once bytes (gives c) (refuses n at) fits also = absurd (not_both bytes c n at fits also)
+fits_once bytes (refuses n at) (gives d) fits also = absurd (not_both bytes d n at also fits)
+fits_once bytes (refuses n at) (refuses m to) fits also =
+    let both = run_once fits.run also.run opening_sound fits.left also.left (refused_stuck fits) (refused_stuck also) (sym fits.split ∙ also.split) in
+    let place = ap (λ es. length (bytes_of es)) both.0 in
+    let moved = ap (λ n. first_refusal (next_checks fits.phase n fits.left)) place ∙ ap₂ (λ p xs. first_refusal (next_checks p (length (bytes_of also.before)) xs)) both.1 both.2 in
+    again n at m to (sym fits.fails ∙ moved ∙ also.fails)
+
+-- so what reading answers for one that fits, it answers for each
+pub reads_each : (bytes : List ℕ) (r : Result Leaf Fault) (a : Answer Contents) → Fits bytes a → Reads r a → (b : Answer Contents) → Fits bytes b → Reads r b
+reads_each bytes r a fits reads b also = subst (Reads r) (fits_once bytes a b fits also) reads

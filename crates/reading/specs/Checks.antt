@@ -1,0 +1,66 @@
+-- What is checked at an entry: each check of a leaf stands here, and only here.
+use Rattle.std.specs.Prelude.{ℕ, ◌+◌, Bool, not, ◌||◌, List, [], ◌∷◌, length, slice_index, ◌==◌, nat_le, nat_lt, if◌then◌else◌}
+use Rattle.rows.specs.declared.tasks.Numbers.{Numbers}
+use Rattle.rows.specs.Answers.{Check, check}
+use Rattle.rows.specs.Judging.{frame_flaws, flaw_checks}
+use Rattle.rows.specs.Times.{most_rows}
+use Rattle.verdicts.specs.declared.verdicts.Finding.{Finding}
+use Rattle.verdicts.specs.declared.verdicts.Verdict.TheVariants.{Meets, Misses}
+use Rattle.leaves.specs.declared.entries.HeadingNumbers.{HeadingNumbers}
+use Rattle.leaves.specs.Bytes.{number_at}
+use Rattle.leaves.specs.Headings.{heading_checks}
+use Rattle.leaves.specs.Judging.{finding_checks}
+use Rattle.leaves.specs.Entries.{letter_F, letter_R, letter_A, letter_Z, heading_size, row_size, finding_size, end_size}
+use Rattle.reading.specs.declared.phases.Phase.{Phase}
+use Rattle.reading.specs.Phases.{rows_in, findings_in, frame_in, is_closed, is_in_turn}
+
+-- the letter of some kind of entry
+abbrev pub is_kind : ℕ → Bool
+is_kind k = k == letter_F || (k == letter_R || (k == letter_A || k == letter_Z))
+
+-- the numbers in the body of F
+abbrev pub heading_fields : List ℕ → HeadingNumbers
+heading_fields body = record { frame = number_at 0 body; bound = slice_index body 4; accuracy = slice_index body 5 }
+
+-- the numbers in the body of R
+abbrev pub row_fields : List ℕ → Numbers
+row_fields body = record { work = number_at 0 body; deadline = number_at 4 body; period = number_at 8 body; jitter = number_at 12 body }
+
+-- the finding in the body of A, where a first rest of 0 is a miss
+abbrev pub finding_fields : List ℕ → Finding
+finding_fields body = record { verdict = if number_at 0 body == 0 then Misses else Meets (number_at 0 body); points = number_at 4 body }
+
+-- the bytes end inside a body of so many bytes: cut leaf, told at the first byte missing
+abbrev pub cut : ℕ → ℕ → List ℕ → Check
+cut size at body = check (nat_lt (length body) size) 13 (at + 1 + length body)
+
+-- F: cut leaf; then its numbers
+abbrev pub heading_entry_checks : ℕ → List ℕ → List Check
+heading_entry_checks at body = cut heading_size at body ∷ heading_checks (heading_fields body) at
+
+-- R on a frame, after so many rows: full table, cut leaf; then its numbers
+abbrev pub row_entry_checks : ℕ → ℕ → ℕ → List ℕ → List Check
+row_entry_checks h rows at body = check (nat_le most_rows rows) 9 at ∷ cut row_size at body ∷ flaw_checks (frame_flaws h) (row_fields body) at
+
+-- A after so many rows and findings: miscount, cut leaf; then the finding
+abbrev pub finding_entry_checks : ℕ → ℕ → ℕ → List ℕ → List Check
+finding_entry_checks rows findings at body = check (nat_le rows findings) 16 at ∷ cut finding_size at body ∷ finding_checks (finding_fields body) at
+
+-- Z after so many rows and findings: miscount, cut leaf; then its number
+abbrev pub end_entry_checks : ℕ → ℕ → ℕ → List ℕ → List Check
+end_entry_checks rows findings at body =
+    check (nat_lt findings rows) 16 at ∷ cut end_size at body ∷ check (not (number_at 0 body == 1 + rows + findings)) 16 at ∷ []
+
+-- what is left to check of an entry whose kind is in turn
+abbrev pub kind_checks : Phase → ℕ → ℕ → List ℕ → List Check
+kind_checks p k at body =
+    if k == letter_F then heading_entry_checks at body
+    else (if k == letter_R then row_entry_checks (frame_in p) (rows_in p) at body
+    else (if k == letter_A then finding_entry_checks (rows_in p) (findings_in p) at body
+    else end_entry_checks (rows_in p) (findings_in p) at body))
+
+-- all that is checked of the bytes from a place on, in order: after the end, loose bytes; before it, cut leaf where
+-- no byte is left, strange letter, out of turn, and then what is left by the kind
+abbrev pub next_checks : Phase → ℕ → List ℕ → List Check
+next_checks p at [] = check (not (is_closed p)) 13 at ∷ []
+next_checks p at (k ∷ body) = check (is_closed p) 18 at ∷ check (not (is_kind k)) 14 at ∷ check (not (is_in_turn p k)) 15 at ∷ kind_checks p k at body

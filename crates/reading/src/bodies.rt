@@ -1,0 +1,79 @@
+// The bodies of entries: their fields, and the bytes that they take.
+ghost use Rattle.std.specs.Prelude.{◌≡◌, ◌+◌, ◌^◌, ◌<◌, ◌≤◌, ◌∷◌, [], ◌++◌, length, drop, OnOk};
+ghost use Rattle.rows.specs.Answers.{refusal, first_refusal};
+ghost use Rattle.rows.specs.Judging.{plain};
+ghost use Rattle.rows.specs.Times.{horizon};
+ghost use Rattle.verdicts.specs.Found.{tells};
+ghost use Rattle.leaves.specs.Bytes.{four, number_at};
+ghost use Rattle.leaves.specs.Entries.{heading_body, row_body, finding_body, heading_size, row_size, finding_size};
+ghost use Rattle.reading.specs.Checks.{cut, heading_fields, row_fields, finding_fields};
+
+use leaves::HeadingNumbers;
+use rows::{Fault, Numbers, Refusal};
+use verdicts::{Finding, Verdict};
+
+// Whether the bytes after the kind byte at a place are enough for a body of some size.
+pub(crate) fn check_length(body: &[u8], at: u32, size: usize) -> Result<(), Fault>
+    requires near { at ≤ horizon }
+    requires small { size ≤ row_size }
+    ensures answered { refusal result ≡ first_refusal (cut size at body.now ∷ []) }
+    ensures room { OnOk result (size ≤ length body.now) }
+{
+    if body.len() < size {
+        return Err(Refusal::CutLeaf.at(at + 1 + body.len() as u32));
+    }
+    Ok(())
+}
+
+// The number in the four bytes from a place on.
+pub(crate) fn number_at(bytes: &[u8], at: usize) -> u32
+    requires { at + 4 ≤ length bytes.now }
+    ensures answered { result ≡ number_at at bytes.now }
+    ensures same { drop at bytes.now ≡ four result ++ drop (at + 4) bytes.now }
+{
+    u32::from_be_bytes([bytes[at], bytes[at + 1], bytes[at + 2], bytes[at + 3]])
+}
+
+// The numbers of a heading.
+pub(crate) fn heading_fields(body: &[u8]) -> HeadingNumbers
+    requires { heading_size ≤ length body.now }
+    ensures answered { result ≡ heading_fields body.now }
+    ensures same { body.now ≡ heading_body result ++ drop heading_size body.now }
+{
+    HeadingNumbers {
+        frame: number_at(body, 0),
+        bound: body[4],
+        accuracy: body[5],
+    }
+}
+
+// The numbers of a row.
+pub(crate) fn row_fields(body: &[u8]) -> Numbers
+    requires { row_size ≤ length body.now }
+    ensures answered { result ≡ row_fields body.now }
+    ensures same { body.now ≡ row_body result ++ drop row_size body.now }
+{
+    Numbers {
+        work: number_at(body, 0),
+        deadline: number_at(body, 4),
+        period: number_at(body, 8),
+        jitter: number_at(body, 12),
+    }
+}
+
+// A finding, in which a first rest of 0 is a miss.
+pub(crate) fn finding_fields(body: &[u8]) -> Finding
+    requires { finding_size ≤ length body.now }
+    ensures answered { result ≡ finding_fields body.now }
+    ensures same { body.now ≡ finding_body (tells result) ++ drop finding_size body.now }
+    ensures fits { result.points < 2 ^ 32 }
+{
+    let verdict = match number_at(body, 0) {
+        0 => Verdict::Misses,
+        rest => Verdict::Meets(rest),
+    };
+    Finding {
+        verdict,
+        points: number_at(body, 4),
+    }
+}
