@@ -34,11 +34,9 @@ judged_on h at r n given =
     let near = first_passes (has_long_period n) 7 at (plain r) _ timely.1 in
     ap (λ m. eqb (h % m.period) 0) same ∙ not-false _ (first_passes (is_off_frame h n) 8 at (plain r) _ near.1).0
 
--- what is taken from a phase and a kind byte is taken by a reader that is in that phase and sees that byte
-pub seen_there : (s : Reading) (p : Phase) (left : List ℕ) (k : ℕ) (q : Phase) (j : ℕ) (body : List ℕ) (e : Entry) (new : Reading) → reading p left ≡ s → left ≡ k ∷ body → p ≡ q → k ≡ j
-    → TakesEntry (reading q (j ∷ body)) e new → TakesEntry s e new
-seen_there s p left k q j body e new is begins phase kind taken =
-    subst (λ r. TakesEntry r e new) (ap (λ i. reading q (i ∷ body)) (sym kind) ∙ ap (reading q) (sym begins) ∙ ap (λ r. reading r left) (sym phase) ∙ is) taken
+-- what is taken in a phase from some bytes is taken by a reader that is in that phase and has those bytes left
+pub seen_there : (s : Reading) (p : Phase) (left : List ℕ) (q : Phase) (bytes : List ℕ) (e : Entry) (new : Reading) → reading p left ≡ s → p ≡ q → left ≡ bytes → TakesEntry (reading q bytes) e new → TakesEntry s e new
+seen_there s p left q bytes e new is phase begins taken = subst (λ r. TakesEntry r e new) (ap (reading q) (sym begins) ∙ ap (λ r. reading r left) (sym phase) ∙ is) taken
 
 module _ (body : List ℕ) (size : ℕ) where
   -- the bytes that follow a body of some size

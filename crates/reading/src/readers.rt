@@ -86,25 +86,27 @@ impl<'a> Reader<'a> {
             (λ t. TakesEntry self.now t.entry (reading t.phase t.left.now))) }
     {
         let at = self.place();
-        let Some((kind, body)) = self.left.split_first() else {
-            return match self.phase {
-                Phase::Closed { .. } => Ok(None),
-                _ => Err(Refusal::CutLeaf.at(at)),
-            };
-        };
-        let taken = match (self.phase, *kind) {
+        let taken = match (self.phase, self.left) {
+            (Phase::Closed { .. }, []) => return Ok(None),
             (Phase::Closed { .. }, _) => return Err(Refusal::LooseBytes.at(at)),
-            (Phase::Opening, b'F') => heading_entry(body, at)?,
-            (Phase::Rows { heading, rows }, b'R') => row_entry(body, at, heading, rows)?,
-            (Phase::Rows { heading, rows }, b'A') => finding_entry(body, at, heading, rows, 0)?,
-            (Phase::Rows { heading, rows }, b'Z') => end_entry(body, at, heading, rows, 0)?,
+            (_, []) => return Err(Refusal::CutLeaf.at(at)),
+            (Phase::Opening, [b'F', body @ ..]) => heading_entry(body, at)?,
+            (Phase::Rows { heading, rows }, [b'R', body @ ..]) => row_entry(
+                body, at, heading, rows,
+            )?,
+            (Phase::Rows { heading, rows }, [b'A', body @ ..]) => finding_entry(
+                body, at, heading, rows, 0,
+            )?,
+            (Phase::Rows { heading, rows }, [b'Z', body @ ..]) => end_entry(
+                body, at, heading, rows, 0,
+            )?,
             (
                 Phase::Findings {
                     heading,
                     rows,
                     findings,
                 },
-                b'A',
+                [b'A', body @ ..],
             ) => finding_entry(body, at, heading, rows, findings)?,
             (
                 Phase::Findings {
@@ -112,9 +114,9 @@ impl<'a> Reader<'a> {
                     rows,
                     findings,
                 },
-                b'Z',
+                [b'Z', body @ ..],
             ) => end_entry(body, at, heading, rows, findings)?,
-            (_, b'F' | b'R' | b'A' | b'Z') => return Err(Refusal::OutOfTurn.at(at)),
+            (_, [b'F' | b'R' | b'A' | b'Z', ..]) => return Err(Refusal::OutOfTurn.at(at)),
             _ => return Err(Refusal::StrangeLetter.at(at)),
         };
         Ok(Some(taken))
