@@ -13,9 +13,10 @@ use Rattle.bounds.specs.Meaning.{Meaning, is_asked}
 use Rattle.bounds.specs.Answering.{amount_answered}
 use Rattle.bounds.proofs.Fitting.{largest, amount_small}
 use Rattle.findings.specs.Asking.{most_above}
-use Rattle.findings.specs.Demand.{Load, demand, rests}
+use Rattle.findings.specs.Demand.{Load, demand, is_rest}
 use Rattle.findings.specs.Points.{is_bend}
-use Rattle.findings.specs.Fitting.{StandOn, OnceThenOn}
+use Rattle.bounds.specs.Instants.{OnceThenOn}
+use Rattle.findings.specs.Fitting.{StandOn}
 use Rattle.findings.proofs.Turning.{on_from}
 
 -- a row on the frame, at an instant up to the horizon, is one that a bound is asked about
@@ -66,13 +67,13 @@ module _ (l : Load) (laws : Laws l.bound) (stands : StandOn l.frame l.above) whe
       omega arith
 
   -- nothing is served at 0
-  pub no_rest_at_start : 1 ≤ l.own → rests l 0 ≡ false
+  pub no_rest_at_start : 1 ≤ l.own → is_rest l 0 ≡ false
   no_rest_at_start busy =
       let some : 1 * 1 ≤ l.frame * l.own = mul-le 1 1 l.frame l.own (frame_low l.frame stands.frame) busy in
       lt-leb (demand l 0) (l.frame * 0) (omega arith)
 
   -- once the row rests between p and q, it rests from there to q, where no row above has a corner between them
-  pub rests_on : (p q : ℕ) → q ≤ horizon → rests l p ≡ false → ((t : ℕ) → p < t → t < q → is_bend l.bound l.above t ≡ false) → OnceThenOn (rests l) p q
+  pub rests_on : (p q : ℕ) → q ≤ horizon → is_rest l p ≡ false → ((t : ℕ) → p < t → t < q → is_bend l.bound l.above t ≡ false) → OnceThenOn (is_rest l) p q
   rests_on p q near late straight i j after low high rest =
       let e : i + (j - i) ≡ j = omega arith in
       let on =

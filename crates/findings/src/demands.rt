@@ -3,7 +3,7 @@ ghost use Rattle.std.specs.Prelude.{◌≡◌, ◌^◌, ◌<◌, ◌≤◌};
 ghost use Rattle.rows.specs.Times.{horizon};
 ghost use Rattle.bounds.specs.Instants.{IsFirst};
 ghost use Rattle.findings.specs.Asking.{most_above};
-ghost use Rattle.findings.specs.Demand.{load, rests};
+ghost use Rattle.findings.specs.Demand.{load, is_rest};
 ghost use Rattle.findings.specs.Findings.{is_tested};
 ghost use Rattle.findings.specs.Fitting.{Fit};
 ghost use Rattle.findings.specs.Loads.{amounts_answered, load_of, nearest_answered};
@@ -48,9 +48,9 @@ impl<'a, B: Bound> Load<'a, B> {
     }
 
     // Whether all that is demanded up to the instant is served by it.
-    pub(crate) fn rests(&self, at: u32) -> bool
+    pub(crate) fn is_rest(&self, at: u32) -> bool
         requires { at ≤ horizon }
-        ensures { result ≡ rests (load_of self.now) at }
+        ensures { result ≡ is_rest (load_of self.now) at }
     {
         let demand = u64::from(self.frame) * u64::from(self.own) + self.amounts(at);
         demand <= u64::from(self.frame) * u64::from(at)

@@ -1,7 +1,7 @@
 use Rattle.std.proofs.Common.{◌+◌, ◌*◌, leb, ap₂, ◌∙◌, arith}
 use Rattle.findings.specs.Loads.{load_of}
 use Rattle.findings.proofs.Amounts.{sum_answered, demand_small}
-use Rattle.findings.proofs.loads.Load.rests.Goals as goal
+use Rattle.findings.proofs.loads.Load.is_rest.Goals as goal
 
 pub amounts-requires : goal.amounts-requires
 amounts-requires g c =
