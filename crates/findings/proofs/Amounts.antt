@@ -16,7 +16,7 @@ use Rattle.findings.specs.Asking.{most_above}
 use Rattle.findings.specs.Demand.{Load, demand, is_rest}
 use Rattle.findings.specs.Points.{is_bend}
 use Rattle.bounds.specs.Instants.{OnceThenOn}
-use Rattle.findings.specs.Fitting.{StandOn}
+use Rattle.findings.specs.Fitting.{StandOn, Fit}
 use Rattle.findings.proofs.Turning.{on_from}
 
 -- a row on the frame, at an instant up to the horizon, is one that a bound is asked about
@@ -56,6 +56,13 @@ sum_answered m h [] t frame on near = refl
 sum_answered m h (r ∷ rs) t frame on near =
     let here = cond-true (is_asked h r t) (m.amount h r t) 0 (asked_on_frame h r t frame (All-head (λ s. is_on_frame h s ≡ true) r rs on) near) in
     rw (sum_by-cons (λ s. amount_answered m h s t) r rs, sum_by-cons (λ s. m.amount h s t) r rs) (ap₂ (λ x y. x + y) here (sum_answered m h rs t frame (All-tail (λ s. is_on_frame h s ≡ true) r rs on) near))
+
+-- and their sum fits 64 bits
+pub sum_fits : (l : Load) → Laws l.bound → Fit most_above l.frame l.above → (t : ℕ) → t ≤ horizon → sum_by (λ r. amount_answered l.bound l.frame r t) l.above < 2 ^ 64
+sum_fits l laws fit t near =
+    let small = sum_small laws l.frame l.above t fit.stands.frame fit.stands.on near in
+    let rows = mul-le (length l.above) largest most_above largest fit.few (omega arith) in
+    rw (sum_answered l.bound l.frame l.above t fit.stands.frame fit.stands.on near) (omega arith)
 
 module _ (l : Load) (laws : Laws l.bound) (stands : StandOn l.frame l.above) where
   -- the demand fits 64 bits with room to spare
