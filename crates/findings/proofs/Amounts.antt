@@ -13,9 +13,10 @@ use Rattle.bounds.specs.Meaning.{Meaning, is_asked}
 use Rattle.bounds.specs.Answering.{amount_answered}
 use Rattle.bounds.proofs.Fitting.{largest, amount_small}
 use Rattle.findings.specs.Asking.{most_above}
-use Rattle.findings.specs.Demand.{Load, demand, rests}
+use Rattle.findings.specs.Demand.{Load, demand, is_rest}
 use Rattle.findings.specs.Points.{is_bend}
-use Rattle.findings.specs.Fitting.{StandOn, OnceThenOn}
+use Rattle.bounds.specs.Instants.{OnceThenOn}
+use Rattle.findings.specs.Fitting.{StandOn, Fit}
 use Rattle.findings.proofs.Turning.{on_from}
 
 -- a row on the frame, at an instant up to the horizon, is one that a bound is asked about
@@ -56,6 +57,13 @@ sum_answered m h (r ∷ rs) t frame on near =
     let here = cond-true (is_asked h r t) (m.amount h r t) 0 (asked_on_frame h r t frame (All-head (λ s. is_on_frame h s ≡ true) r rs on) near) in
     rw (sum_by-cons (λ s. amount_answered m h s t) r rs, sum_by-cons (λ s. m.amount h s t) r rs) (ap₂ (λ x y. x + y) here (sum_answered m h rs t frame (All-tail (λ s. is_on_frame h s ≡ true) r rs on) near))
 
+-- and their sum fits 64 bits
+pub sum_fits : (l : Load) → Laws l.bound → Fit most_above l.frame l.above → (t : ℕ) → t ≤ horizon → sum_by (λ r. amount_answered l.bound l.frame r t) l.above < 2 ^ 64
+sum_fits l laws fit t near =
+    let small = sum_small laws l.frame l.above t fit.stands.frame fit.stands.on near in
+    let rows = mul-le (length l.above) largest most_above largest fit.few (omega arith) in
+    rw (sum_answered l.bound l.frame l.above t fit.stands.frame fit.stands.on near) (omega arith)
+
 module _ (l : Load) (laws : Laws l.bound) (stands : StandOn l.frame l.above) where
   -- the demand fits 64 bits with room to spare
   pub demand_small : (t : ℕ) → length l.above ≤ most_above → t ≤ horizon → l.own < 2 ^ 32 → demand l t < 2 ^ 63
@@ -66,13 +74,13 @@ module _ (l : Load) (laws : Laws l.bound) (stands : StandOn l.frame l.above) whe
       omega arith
 
   -- nothing is served at 0
-  pub no_rest_at_start : 1 ≤ l.own → rests l 0 ≡ false
+  pub no_rest_at_start : 1 ≤ l.own → is_rest l 0 ≡ false
   no_rest_at_start busy =
       let some : 1 * 1 ≤ l.frame * l.own = mul-le 1 1 l.frame l.own (frame_low l.frame stands.frame) busy in
       lt-leb (demand l 0) (l.frame * 0) (omega arith)
 
   -- once the row rests between p and q, it rests from there to q, where no row above has a corner between them
-  pub rests_on : (p q : ℕ) → q ≤ horizon → rests l p ≡ false → ((t : ℕ) → p < t → t < q → is_bend l.bound l.above t ≡ false) → OnceThenOn (rests l) p q
+  pub rests_on : (p q : ℕ) → q ≤ horizon → is_rest l p ≡ false → ((t : ℕ) → p < t → t < q → is_bend l.bound l.above t ≡ false) → OnceThenOn (is_rest l) p q
   rests_on p q near late straight i j after low high rest =
       let e : i + (j - i) ≡ j = omega arith in
       let on =

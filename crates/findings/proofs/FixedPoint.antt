@@ -11,10 +11,10 @@ use Rattle.bounds.specs.Instants.{least, IsFirst}
 use Rattle.bounds.specs.Supplied.{exact_steps}
 use Rattle.bounds.specs.Lemmas.Instants.{least_up_to}
 use Rattle.rows.proofs.Rising.{steps_grow}
-use Rattle.findings.specs.Demand.{load, rests}
+use Rattle.findings.specs.Demand.{load, is_rest}
 use Rattle.findings.specs.Exact.{exact_demand, is_exact_rest, exact_rest, response, IsLeastFixedPoint, Responds}
 use Rattle.verdicts.specs.Found.{Found}
-use Rattle.findings.specs.Findings.{first_rest, finding, row_finding}
+use Rattle.findings.specs.Findings.{first_rest, load_finding, row_finding}
 
 -- a factor goes before a sum
 pub sum_scaled : {X : Type 0} (h : ℕ) (f : X → ℕ) (xs : List X) → sum_by (λ x. h * f x) xs ≡ h * sum_by f xs
@@ -30,12 +30,12 @@ leb_scaled h a b some =
     (cases_lt b a)
 
 -- what is found up to an instant that is the window is the finding about the row
-pub found_at_window : (h : ℕ) (r : Row) (above : List Row) (f : Found) (last : ℕ) → last ≡ window r → f ≡ finding (load exact_steps h r.work above) last → f ≡ row_finding exact_steps h r above
-found_at_window h r above f last e found = found ∙ ap (finding (load exact_steps h r.work above)) e
+pub found_at_window : (h : ℕ) (r : Row) (above : List Row) (f : Found) (last : ℕ) → last ≡ window r → f ≡ load_finding (load exact_steps h r.work above) last → f ≡ row_finding exact_steps h r above
+found_at_window h r above f last e found = found ∙ ap (load_finding (load exact_steps h r.work above)) e
 
 module _ (h : ℕ) (r : Row) (above : List Row) (some : 1 ≤ h) where
   -- by exact steps a row rests where it does with no frame
-  pub rests_exactly : (t : ℕ) → rests (load exact_steps h r.work above) t ≡ is_exact_rest r above t
+  pub rests_exactly : (t : ℕ) → is_rest (load exact_steps h r.work above) t ≡ is_exact_rest r above t
   rests_exactly t =
       let whole : h * r.work + sum_by (λ s. h * steps s t) above ≡ h * exact_demand r above t = omega (arith, sum_scaled h (λ s. steps s t) above) in
       ap (λ n. leb n (h * t)) whole ∙ leb_scaled h (exact_demand r above t) t some

@@ -13,7 +13,7 @@ use Rattle.bounds.specs.Laws.{Laws}
 use Rattle.bounds.specs.Meaning.{Meaning}
 use Rattle.findings.specs.Demand.{load}
 use Rattle.verdicts.specs.Found.{Found}
-use Rattle.findings.specs.Findings.{finding, row_finding}
+use Rattle.findings.specs.Findings.{load_finding, row_finding}
 use Rattle.findings.specs.Tables.{findings_below, findings_of, TableSays}
 use Rattle.findings.specs.Fitting.{StandOn}
 use Rattle.findings.proofs.Walk.{finding_says}
@@ -33,11 +33,11 @@ module _ (m : Meaning) (h : ℕ) where
 
 -- a finding counted for the row at a place is the one there among the findings from some place on
 pub counted_at : (m : Meaning) (h : ℕ) (rows : List Row) (from i : ℕ) (r : Row) (f : Found) (last : ℕ) → from ≤ i → i < length rows → r ≡ get_or rows i r → last ≡ window r
-    → f ≡ finding (load m h r.work (take (i - 0) rows)) last → f ≡ get_or (drop from (findings_of m h rows)) (i - from) f
+    → f ≡ load_finding (load m h r.work (take (i - 0) rows)) last → f ≡ get_or (drop from (findings_of m h rows)) (i - from) f
 counted_at m h rows from i r f last late within read at-window found =
     let whole : i - 0 ≡ i = omega arith in
     let place : from + (i - from) ≡ i = omega arith in
-    found ∙ ap₂ (λ n l. finding (load m h r.work (take n rows)) l) whole at-window ∙ ap (λ s. row_finding m h s (take i rows)) read
+    found ∙ ap₂ (λ n l. load_finding (load m h r.work (take n rows)) l) whole at-window ∙ ap (λ s. row_finding m h s (take i rows)) read
     ∙ sym (finding_below_at m h [] rows i f r within) ∙ ap (λ n. get_or (findings_of m h rows) n f) (sym place) ∙ sym (get_or-drop from (findings_of m h rows) (i - from) f)
 
 -- of every row of a table that stands on a frame the finding says what a finding says

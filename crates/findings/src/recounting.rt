@@ -8,15 +8,15 @@ ghost use Rattle.verdicts.specs.Found.{tells};
 ghost use Rattle.findings.specs.Tables.{findings_of, TableSays};
 ghost use Rattle.findings.specs.Fitting.{Fit, HasPlaces};
 
-use crate::asking::standing;
+use crate::frames::check_rows;
 use crate::loads::Load;
-use crate::verdicts::Finding;
 use bounds::Bound;
 use rows::{Fault, MOST_ROWS, Refusal, Row, is_frame};
+use verdicts::Finding;
 
 /// Whether a table of so many rows on the frame can be counted into a list of so many places.
 pub fn check_size(frame: u32, rows: usize, places: usize) -> Result<(), Fault>
-    ensures checked { answer (λ u. u) result ≡ checked (size_checks frame rows places) tt }
+    ensures answered { answer (λ u. u) result ≡ checked (size_checks frame rows places) tt }
     ensures sized { OnOk result (HasPlaces frame rows places) }
 {
     if !is_frame(frame) {
@@ -33,16 +33,12 @@ pub fn check_size(frame: u32, rows: usize, places: usize) -> Result<(), Fault>
 
 // What is checked of rows before they are counted into a list of so many places.
 fn check_table(frame: u32, rows: &[Row], places: usize) -> Result<(), Fault>
-    ensures checked { answer (λ u. u) result ≡ checked (table_checks frame rows.now places) tt }
+    ensures answered { answer (λ u. u) result ≡ checked (table_checks frame rows.now places) tt }
     ensures fit { OnOk result (Fit most_rows frame rows.now) }
     ensures room { OnOk result (length rows.now ≤ places) }
 {
     check_size(frame, rows.len(), places)?;
-    let on = standing(frame, rows);
-    if on < rows.len() {
-        return Err(Refusal::OffFrame.at(on as u32 + 1));
-    }
-    Ok(())
+    check_rows(frame, rows)
 }
 
 // Puts the findings of the rows from a place on into the list, each at its row's place.
