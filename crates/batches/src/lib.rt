@@ -1,17 +1,16 @@
-//! Jobs counted in batches: a bound that is brought to the toolkit. It is written as any group would
-//! write its own, over what `rows` and `bounds` make public.
+//! Jobs counted in batches: a bound that is brought to the toolkit, as docs/OWN_BOUND.md describes
+//! it. It is written as any group would write its own, over what `rows` and `bounds` make public.
 #![tactic(auto)]
-
-mod errors;
 
 ghost use Rattle.std.specs.Prelude.{◌≡◌, ◌^◌, ◌<◌, ◌≤◌};
 ghost use Rattle.rows.specs.Times.{horizon};
 ghost use Rattle.bounds.specs.Meaning.{finest};
 ghost use Rattle.batches.specs.Batching.{job_count};
 
-pub use errors::BatchError;
+mod errors;
 
 use bounds::{Bound, ExactSteps, FINEST, asked};
+pub use errors::BatchError;
 use rows::{HORIZON, Refusal, Row};
 
 /// Jobs are counted one by one while they are few, and in whole batches of so many jobs once they
@@ -39,8 +38,9 @@ impl Batches {
     ghost use Rattle.batches.specs.Batching.{batch_count};
     ghost use Rattle.batches.specs.Making.{made, made_by, parameters_of};
 
-    /// The bound of an accuracy from 1 to 64 and a batch size from 1 to the horizon, in jobs. Refused
-    /// with 3, bad accuracy, at 0 for any other accuracy, and then with the size for any other size.
+    /// The bound of an accuracy from 1 to 64 and a batch size, in jobs, from 1 to the horizon. Any
+    /// other accuracy is refused with 3, bad accuracy, at 0; after that any other size is told as
+    /// `BatchError::BadSize`.
     pub fn new(accuracy: u32, size: u32) -> Result<Batches, BatchError>
         ensures { made_by result ≡ made accuracy size }
     {
