@@ -10,7 +10,9 @@ use Rattle.bounds.specs.Instants.{least, IsFirst}
 use Rattle.bounds.specs.Meaning.{Meaning}
 use Rattle.bounds.specs.Answering.{corner_answered}
 use Rattle.bounds.specs.Lemmas.Instants.{least_after}
-use Rattle.findings.specs.Points.{is_test_point}
+use Rattle.findings.specs.Demand.{Load}
+use Rattle.findings.specs.Findings.{is_tested}
+use Rattle.findings.specs.Fitting.{StandOn}
 use Rattle.findings.proofs.Amounts.{asked_on_frame}
 
 -- a first instant is one for another test that finds nothing earlier and holds there
@@ -85,7 +87,9 @@ module _ (m : Meaning) (h last after : ℕ) (frame : is_frame h ≡ true) (near 
       step None rest found = with_row t (rest t) found
       step (Some c) rest found = with_row (min t c) (rest (min t c)) found
 
-  -- from the last instant on, it is the first test point
-  pub first_test_point : (rs : List Row) → AllPass (is_on_frame h) rs → IsFirst (is_test_point m rs last) after last (nearest last rs)
-  first_test_point rs on =
-      first_nearest rs (λ i. eqb i last) last on (record { after = before; within = omega arith; holds = eq-eqb last last refl; none = λ j low high. ne_eqb j last (λ e. omega arith) })
+-- the nearest of the last instant and the corners of the rows above is the next test point
+pub next_test_point : (l : Load) (last after next : ℕ) → StandOn l.frame l.above → last ≤ horizon → after < last
+    → next ≡ fold min last (filter_map (λ r. corner_answered l.bound l.frame r after) l.above) → IsFirst (is_tested l last) after last next
+next_test_point l last after next stands near before is =
+    let last_first : IsFirst (λ i. eqb i last) after last last = record { after = before; within = omega arith; holds = eq-eqb last last refl; none = λ j low high. ne_eqb j last (λ e. omega arith) } in
+    subst (IsFirst (is_tested l last) after last) (sym is) (first_nearest l.bound l.frame last after stands.frame near before l.above (λ i. eqb i last) last stands.on last_first)
