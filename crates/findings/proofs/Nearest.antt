@@ -77,15 +77,15 @@ module _ (m : Meaning) (h last after : ℕ) (frame : is_frame h ≡ true) (near 
       spread false false x y = refl
 
       with_row : (u : ℕ) → Leads rs (seen_more m last r seen) u → IsFirst (seen_more m last r seen) after last u → IsFirst (λ i. seen i || (ltb i last && (m.is_corner r i || list_any (λ s. m.is_corner s i) rs))) after last (nearest u rs)
-      with_row u rest found =
-          first_like _ _ after last (nearest u rs) (rest (All-tail (λ s. is_on_frame h s ≡ true) r rs on) found)
+      with_row u others found =
+          first_like _ _ after last (nearest u rs) (others (All-tail (λ s. is_on_frame h s ≡ true) r rs on) found)
           (λ e. sym (spread (seen (nearest u rs)) (ltb (nearest u rs) last) (m.is_corner r (nearest u rs)) (list_any (λ s. m.is_corner s (nearest u rs)) rs)) ∙ e)
           (λ j low high e. sym (spread (seen j) (ltb j last) (m.is_corner r j) (list_any (λ s. m.is_corner s j) rs)) ∙ e)
 
       step : (o : Option ℕ) → ((u : ℕ) → Leads rs (seen_more m last r seen) u) → MatchOption o (IsFirst (seen_more m last r seen) after last t) (λ c. IsFirst (seen_more m last r seen) after last (min t c))
           → IsFirst (λ i. seen i || (ltb i last && (m.is_corner r i || list_any (λ s. m.is_corner s i) rs))) after last (fold min t (cons_option o (filter_map (λ s. corner_answered m h s after) rs)))
-      step None rest found = with_row t (rest t) found
-      step (Some c) rest found = with_row (min t c) (rest (min t c)) found
+      step None others found = with_row t (others t) found
+      step (Some c) others found = with_row (min t c) (others (min t c)) found
 
 -- the nearest of the last instant and the corners of the rows above is the next test point
 pub next_test_point : (l : Load) (last after next : ℕ) → StandOn l.frame l.above → last ≤ horizon → after < last

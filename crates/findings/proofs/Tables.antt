@@ -58,8 +58,8 @@ module _ {X : Type 0} (old new : List X) (from : ℕ) where
       ap (λ l. set l i x) put ∙ ap₂ (set (paste old from new (i - from))) place next ∙ paste_more old from new (i - from) x (omega arith) left ∙ ap (paste old from new) count
 
   -- at last all are
-  pub put_all : (i : ℕ) → i - from ≡ length new → paste old from new (i - from) ≡ written old from new
-  put_all i all = ap (paste old from new) all ∙ paste_all old from new (length new) refl
+  pub put_all : (now : List X) (i : ℕ) → now ≡ paste old from new (i - from) → i - from ≡ length new → now ≡ written old from new
+  put_all now i put all = put ∙ ap (paste old from new) all ∙ paste_all old from new (length new) refl
 
 -- a place that is written after those before it leaves the places outside as they were
 pub stays_more : {X : Type 0} (old new : List X) (from i : ℕ) (x : X) → from ≤ i → StaysOutside from i old new → StaysOutside from (i + 1) old (set new i x)

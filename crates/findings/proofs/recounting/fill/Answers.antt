@@ -31,6 +31,6 @@ returns g c =
     let all = findings_of m c.args.frame c.args.rows.now in
     let whole : c.loop-i.i - c.args.from ≡ length (drop c.args.from all) = omega (arith, length-drop c.args.from all, length_findings_below m c.args.frame [] c.args.rows.now, c.loop-i.auto.i, c.loop-i-test.false) in
     record {
-      filled = c.loop-i.invariant.put ∙ put_all _ (drop c.args.from all) c.args.from c.loop-i.i whole;
+      filled = put_all _ (drop c.args.from all) c.args.from _ c.loop-i.i c.loop-i.invariant.put whole;
       stay = λ k d outside. c.loop-i.invariant.stay k d (outside_end c.args.from (length c.args.rows.now) c.loop-i.i k c.loop-i.invariant.within outside);
     }
