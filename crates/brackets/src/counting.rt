@@ -1,11 +1,11 @@
 // A row counted twice, and how far apart the counts are.
 ghost use Rattle.std.specs.Prelude.{◌≡◌, IfOk};
 ghost use Rattle.rows.specs.Answers.{answer, checked};
-ghost use Rattle.findings.specs.Asking.{checks};
+ghost use Rattle.findings.specs.Asking.{question_checks};
 ghost use Rattle.findings.specs.Exact.{exact_rest};
 ghost use Rattle.verdicts.specs.Found.{verdict_rest};
 ghost use Rattle.brackets.specs.Bracketing.{OrderIsFree, LiesBetween, Brackets, FewerIsNoLater};
-ghost use Rattle.brackets.specs.Counting.{both, gap, row_counted};
+ghost use Rattle.brackets.specs.Counting.{both_found, gap, row_counts};
 
 use bounds::{Bound, ExactSteps};
 use findings::{Finding, Verdict, find};
@@ -37,9 +37,9 @@ pub fn count_both<B: Bound>(
     row: &Row,
     above: &[Row],
 ) -> Result<Counts, Fault>
-    ensures counted { answer both result
-        ≡ checked (checks frame row.now above.now)
-        (row_counted (B.meaning bound.now) frame row.now above.now) }
+    ensures answered { answer both_found result
+        ≡ checked (question_checks frame row.now above.now)
+        (row_counts (B.meaning bound.now) frame row.now above.now) }
     ensures exactly { IfOk result (λ c. verdict_rest c.exact.verdict ≡ exact_rest row.now above.now) }
     ensures between { IfOk result
         (λ c. LiesBetween (B.meaning bound.now).accuracy row.now above.now (verdict_rest c.bounded.verdict)) }
