@@ -2,5 +2,5 @@ pub mod Earlier
 pub mod Bracket
 pub mod Tails
 pub mod Rearranged
-pub mod Counted
+pub mod TwoCounts
 pub mod Tried

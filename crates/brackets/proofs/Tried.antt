@@ -26,9 +26,9 @@ module _ (h : ℕ) (r : Row) (above : List Row) where
   -- a finding by the tail made with an accuracy tells whether the row meets by it
   pub tail_meets : (k a : ℕ) (f : Finding) (v : Verdict) → gives k ≡ checked (check (not (is_accuracy a)) 3 0 ∷ []) a
       → gives (tells f) ≡ checked (question_checks h r above) (row_finding (linear_tail k) h r above) → f.verdict ≡ v → has_rest_by h r above a ≡ is_some (verdict_rest v)
-  tail_meets k a f v made found is =
-      ap (has_rest_by h r above) (sym (given_is (check (not (is_accuracy a)) 3 0 ∷ []) k a made))
-      ∙ ap (λ x. is_some x.rest) (sym (given_is (question_checks h r above) _ _ found))
+  tail_meets k a f v given answered is =
+      ap (has_rest_by h r above) (sym (given_is (check (not (is_accuracy a)) 3 0 ∷ []) k a given))
+      ∙ ap (λ x. is_some x.rest) (sym (given_is (question_checks h r above) _ _ answered))
       ∙ ap (λ u. is_some (verdict_rest u)) is
 
   -- from the first accuracy by which the row meets, it meets by all
@@ -41,8 +41,8 @@ module _ (h : ℕ) (r : Row) (above : List Row) where
   -- that accuracy is the answer
   pub least_met : {A : Type 0} (x y : A) (a : ℕ) → gives x ≡ checked (question_checks h r above) y → IsFirst (has_rest_by h r above) 0 finest a
       → gives (Some a) ≡ checked (question_checks h r above) (least (has_rest_by h r above) finest 1)
-  least_met x y a found first =
-      gives_any (question_checks h r above) x y found (Some a) ∙ ap (checked (question_checks h r above)) (sym (least_some (has_rest_by h r above) finest 0 finest a first first.within))
+  least_met x y a answered first =
+      gives_any (question_checks h r above) x y answered (Some a) ∙ ap (checked (question_checks h r above)) (sym (least_some (has_rest_by h r above) finest 0 finest a first first.within))
 
   -- where all were tried there is none
   pub none_met : Tried (finest + 1) → gives None ≡ checked (question_checks h r above) (least (has_rest_by h r above) finest 1)

@@ -11,7 +11,12 @@ use bounds::{FINEST, LinearTail};
 use findings::{Verdict, find};
 use rows::{Fault, Row};
 
-/// The least accuracy of a linear tail by which the row meets, if there is one.
+/// The least accuracy of a linear tail, from 1 to 64, by which a row below others meets, if there is
+/// one (docs/RULES.md, How far two counts part).
+///
+/// Refused as `findings::find` is: 1, bad frame, at 0; 9, full table, at 0; 8, off frame, at the
+/// smallest rank that is off the frame.
+#[tactic(auto, using(crate::proofs::Tails::finer_tails))]
 pub fn least_accuracy(frame: u32, row: &Row, above: &[Row]) -> Result<Option<u32>, Fault>
     ensures answered { answer (λ o. o) result
         ≡ checked (question_checks frame row.now above.now)

@@ -19,7 +19,7 @@ pub struct Counts {
 }
 
 impl Counts {
-    /// How much later the row rests by the bound than in exact steps, where it meets by both.
+    /// How many ticks later the row rests by the bound than in exact steps, where it meets by both.
     pub fn gap(&self) -> Option<u32>
         ensures { result ≡ gap (verdict_rest self.now.exact.verdict) (verdict_rest self.now.bounded.verdict) }
     {
@@ -30,7 +30,12 @@ impl Counts {
     }
 }
 
-/// The findings about a row below others, in exact steps and by a bound.
+/// The findings about a row below others, in exact steps and by a bound (docs/RULES.md, How far two
+/// counts part).
+///
+/// Refused as `findings::find` is: 1, bad frame, at 0; 9, full table, at 0; 8, off frame, at the
+/// smallest rank that is off the frame.
+#[tactic(auto, using(crate::proofs::Bracket::fewer_above, crate::proofs::Rearranged::any_order, crate::proofs::TwoCounts::both_are, crate::proofs::TwoCounts::exact_is))]
 pub fn count_both<B: Bound>(
     bound: &B,
     frame: u32,

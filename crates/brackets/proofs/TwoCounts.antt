@@ -20,18 +20,18 @@ use Rattle.brackets.proofs.Bracket.{brackets}
 
 module _ (h : ℕ) (r : Row) (above : List Row) where
   -- two findings that are answered are the two of the row
-  pub counted : (m : Meaning) (c : Counts) → gives (tells c.exact) ≡ checked (question_checks h r above) (row_finding exact_steps h r above) → gives (tells c.bounded) ≡ checked (question_checks h r above) (row_finding m h r above)
+  pub both_are : (m : Meaning) (c : Counts) → gives (tells c.exact) ≡ checked (question_checks h r above) (row_finding exact_steps h r above) → gives (tells c.bounded) ≡ checked (question_checks h r above) (row_finding m h r above)
       → gives (both_found c) ≡ checked (question_checks h r above) (row_counts m h r above)
-  counted m c exact bounded =
+  both_are m c exact bounded =
       let pair : Found → Found → Found × Found = λ e b. (e, b) in
       ap gives (ap₂ pair (given_is (question_checks h r above) _ _ exact) (given_is (question_checks h r above) _ _ bounded)) ∙ gives_any (question_checks h r above) _ _ exact (row_counts m h r above)
 
   -- the finding in exact steps tells the first rest with no frame
-  pub exactly : (f : Finding) → gives (tells f) ≡ checked (question_checks h r above) (row_finding exact_steps h r above) → verdict_rest f.verdict ≡ exact_rest r above
-  exactly f found = ap (λ x. x.rest) (given_is (question_checks h r above) _ _ found) ∙ exact_rest_is h r above (above_stands h r above _ _ found).frame
+  pub exact_is : (f : Finding) → gives (tells f) ≡ checked (question_checks h r above) (row_finding exact_steps h r above) → verdict_rest f.verdict ≡ exact_rest r above
+  exact_is f answered = ap (λ x. x.rest) (given_is (question_checks h r above) _ _ answered) ∙ exact_rest_is h r above (above_stands h r above _ _ answered).frame
 
   -- and that by a lawful bound lies between it and the one at the lower speed
   pub between : {m : Meaning} → Laws m → (f : Finding) → gives (tells f) ≡ checked (question_checks h r above) (row_finding m h r above) → LiesBetween m.accuracy r above (verdict_rest f.verdict)
-  between {m} laws f found =
-      let is = ap (λ x. x.rest) (given_is (question_checks h r above) _ _ found) in
-      subst (LiesBetween m.accuracy r above) (sym is) (brackets laws h r above (above_stands h r above _ _ found))
+  between {m} laws f answered =
+      let is = ap (λ x. x.rest) (given_is (question_checks h r above) _ _ answered) in
+      subst (LiesBetween m.accuracy r above) (sym is) (brackets laws h r above (above_stands h r above _ _ answered))
