@@ -1,4 +1,4 @@
-// Findings bracketed: a bound lies between the exact count and the exact count on a slower processor.
+//! Findings bracketed: a bound lies between the exact count and the exact count on a slower processor.
 #![tactic(auto)]
 
 mod accuracies;

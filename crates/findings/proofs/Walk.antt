@@ -7,6 +7,7 @@ use Rattle.bounds.specs.Laws.{Laws}
 use Rattle.bounds.specs.Lemmas.Instants.{least_after, least_some, least_none, least_up_to, count_first}
 use Rattle.findings.specs.Demand.{Load, is_rest}
 use Rattle.findings.specs.Points.{is_bend}
+use Rattle.verdicts.specs.Found.{Found}
 use Rattle.findings.specs.Findings.{first_rest, is_tested, is_resting_point, stop, points, load_finding, Says}
 use Rattle.bounds.specs.Instants.{OnceThenOn}
 use Rattle.findings.specs.Fitting.{StandOn}
@@ -131,3 +132,7 @@ module _ (l : Load) (last : ℕ) (laws : Laws l.bound) (stands : StandOn l.frame
       at None (Some t) none first = absurd (both_ways (is_rest l t) (no_rest none last (omega arith) t first.within) first.holds)
       at (Some s) None first none = absurd (both_ways (is_rest l s) (none s first.after first.within) (and_parts (is_tested l last s) (is_rest l s) first.holds).1)
       at (Some s) (Some t) stops first = record { rest = first; points = (s, stops, refl) }
+
+  -- and so of every finding that is it
+  pub found_says : (f : Found) → f ≡ load_finding l last → Says l last f
+  found_says f is = subst (Says l last) (sym is) finding_says

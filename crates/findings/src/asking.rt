@@ -36,7 +36,12 @@ fn check_question(frame: u32, row: &Row, above: &[Row]) -> Result<(), Fault>
     Ok(())
 }
 
-/// The finding about a row below others, by a bound.
+/// The finding about a row below others, by a bound: its first rest in ticks, at most its window,
+/// and the points tested (docs/RULES.md, Findings).
+///
+/// Refused with 1, bad frame, at 0 for a frame of 0 or above the horizon; 9, full table, at 0 with
+/// more than 31 rows above; 8, off frame, at the rank of the first row whose period does not divide
+/// the frame, where the rows above have the ranks from 1 on and the row asked about the next one.
 pub fn find<B: Bound>(bound: &B, frame: u32, row: &Row, above: &[Row]) -> Result<Finding, Fault>
     ensures answered { answer tells result
         ≡ checked (question_checks frame row.now above.now)
@@ -47,7 +52,11 @@ pub fn find<B: Bound>(bound: &B, frame: u32, row: &Row, above: &[Row]) -> Result
     Ok(Load::new(bound, frame, row.work, above).search(row.window()))
 }
 
-/// The response time of a row below others, in exact steps: none where it misses its deadline.
+/// The response time of a row below others in ticks from its release, in exact steps: none where it
+/// misses its deadline (docs/RULES.md, Rests). It does not depend on the frame.
+///
+/// Refused as `find` is: 1, bad frame, at 0; 9, full table, at 0; 8, off frame, at the smallest rank
+/// that is off the frame.
 pub fn response_time(frame: u32, row: &Row, above: &[Row]) -> Result<Option<u64>, Fault>
     ensures answered { answer (λ o. o) result
         ≡ checked (question_checks frame row.now above.now) (response row.now above.now) }

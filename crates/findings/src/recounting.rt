@@ -15,6 +15,9 @@ use rows::{Fault, MOST_ROWS, Refusal, Row, is_frame};
 use verdicts::Finding;
 
 /// Whether a table of so many rows on the frame can be counted into a list of so many places.
+///
+/// Refused, each at 0, with 1, bad frame, for a frame of 0 or above the horizon; 9, full table, for
+/// more than 32 rows; 12, short list, for fewer places than rows (docs/REFUSALS.md).
 pub fn check_size(frame: u32, rows: usize, places: usize) -> Result<(), Fault>
     ensures answered { answer (λ u. u) result ≡ checked (size_checks frame rows places) tt }
     ensures sized { OnOk result (HasPlaces frame rows places) }
@@ -57,7 +60,10 @@ fn fill<B: Bound>(bound: &B, frame: u32, rows: &[Row], from: usize, list: &mut [
 }
 
 /// The findings of the rows of a table, each below the rows before it, put into the list in rank
-/// order. The first `from` places stay, and so do those past the last row.
+/// order (docs/RULES.md, Findings). The first `from` places stay, and so do those past the last row.
+///
+/// Refused as `check_size` is, with 1, bad frame, 9, full table, and 12, short list, at 0; then with
+/// 8, off frame, at the smallest rank that is off the frame. A refused call leaves the list as it was.
 pub fn recount<B: Bound>(
     bound: &B,
     frame: u32,
