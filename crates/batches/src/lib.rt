@@ -1,5 +1,5 @@
-//! Jobs counted in batches: a bound that is brought to the toolkit, as docs/OWN_BOUND.md describes
-//! it. It is written as any group would write its own, over what `rows` and `bounds` make public.
+//! Jobs counted in batches: a bound that is brought to the toolkit (docs/OWN_BOUND.md). It is
+//! written as any group would write its own, over what `rows` and `bounds` make public.
 #![tactic(auto)]
 
 ghost use Rattle.std.specs.Prelude.{◌≡◌, ◌^◌, ◌<◌, ◌≤◌};
@@ -38,9 +38,11 @@ impl Batches {
     ghost use Rattle.batches.specs.Batching.{batch_count};
     ghost use Rattle.batches.specs.Making.{made, made_by, parameters_of};
 
-    /// The bound of an accuracy from 1 to 64 and a batch size, in jobs, from 1 to the horizon. Any
-    /// other accuracy is refused with 3, bad accuracy, at 0; after that any other size is told as
-    /// `BatchError::BadSize`.
+    /// The bound of an accuracy from 1 to 64 and a batch size from 1 to the horizon, in jobs
+    /// (docs/OWN_BOUND.md, The example).
+    ///
+    /// Refused with 3, bad accuracy, at 0 for any other accuracy; then, for any other size, by the
+    /// crate's own `BatchError::BadSize`.
     pub fn new(accuracy: u32, size: u32) -> Result<Batches, BatchError>
         ensures { made_by result ≡ made accuracy size }
     {

@@ -1,4 +1,5 @@
-// Surveys of whole tables: how many rows, which refusal comes first, and what the list holds afterwards.
+// Surveys of whole tables: how many rows, which refusal comes first, and what the list holds
+// afterwards.
 use crate::building::{meets, misses, numbers};
 use bounds::{ExactSteps, LinearTail, Supplied};
 use rows::{Fault, HORIZON, Numbers, Refusal};

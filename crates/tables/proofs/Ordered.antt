@@ -4,9 +4,9 @@ use Rattle.std.specs.Option.{option_map}
 use Rattle.std.proofs.lemmas.List.{length-map}
 use Rattle.rows.specs.declared.tasks.Numbers.{Numbers}
 use Rattle.rows.specs.declared.tasks.Row.{Row}
-use Rattle.rows.specs.Answers.{check_each, checked, Passes, refuses}
-use Rattle.rows.specs.Judging.{frame_flaws, is_off_frame, plain, row_flaws, table_flaw_checks}
-use Rattle.rows.proofs.Checks.{passed_first, refused_first}
+use Rattle.rows.specs.Answers.{check_each, checked, gives, Passes, refuses}
+use Rattle.rows.specs.Judging.{frame_flaws, is_off_frame, plain, row_flaws, rows_of, table_flaw_checks}
+use Rattle.rows.proofs.Checks.{gives_any, passed_first, refused_first, refuses_any}
 use Rattle.rows.proofs.Places.{position_map}
 use Rattle.findings.specs.Asking.{is_off, size_checks, table_checks}
 use Rattle.tables.specs.Surveys.{survey_checks}
@@ -23,11 +23,19 @@ module _ (h : ℕ) (table : List Numbers) (places : ℕ) (size : Passes (size_ch
       ∙ passed_first (size_checks h (length table) places) (table_flaw_checks (frame_flaws h) table) tt tt size z
 
   -- and one whose numbers come through theirs is answered as the rows that they make are
-  pub rows_answered : (rows : List Row) → map plain rows ≡ table → Passes (table_flaw_checks row_flaws table) → (z : ℕ) → checked (table_checks h rows places) z ≡ checked (survey_checks h table places) z
-  rows_answered rows are judged z =
-      let count : length table ≡ length rows = sym (ap length are) ∙ length-map rows plain in
-      let off = check_plain h rows ∙ ap (check_each (is_off_frame h) 8) are in
-      sym (passed_first (size_checks h (length rows) places) (check_each (is_off h) 8 rows ∷ []) tt tt (subst (λ n. Passes (size_checks h n places)) count size) z)
-      ∙ ap (λ c. checked (c ∷ []) z) off
-      ∙ passed_first (table_flaw_checks row_flaws table) (check_each (is_off_frame h) 8 table ∷ []) tt tt judged z
-      ∙ passed_first (size_checks h (length table) places) (table_flaw_checks (frame_flaws h) table) tt tt size z
+  module _ (numbers : Passes (table_flaw_checks row_flaws table)) (rows : List Row) (made : rows ≡ rows_of table) (kept : map plain (rows_of table) ≡ table) where
+    same_checks : (z : ℕ) → checked (table_checks h rows places) z ≡ checked (survey_checks h table places) z
+    same_checks z =
+        let are : map plain rows ≡ table = ap (map plain) made ∙ kept in
+        let count : length table ≡ length rows = sym (ap length are) ∙ length-map rows plain in
+        let off = check_plain h rows ∙ ap (check_each (is_off_frame h) 8) are in
+        sym (passed_first (size_checks h (length rows) places) (check_each (is_off h) 8 rows ∷ []) tt tt (subst (λ n. Passes (size_checks h n places)) count size) z)
+        ∙ ap (λ c. checked (c ∷ []) z) off
+        ∙ passed_first (table_flaw_checks row_flaws table) (check_each (is_off_frame h) 8 table ∷ []) tt tt numbers z
+        ∙ passed_first (size_checks h (length table) places) (table_flaw_checks (frame_flaws h) table) tt tt size z
+
+    pub rows_refused : (n at : ℕ) → refuses n at ≡ checked {A = Unit {0}} (table_checks h rows places) tt → (z : ℕ) → refuses n at ≡ checked (survey_checks h table places) z
+    rows_refused n at refused z = refuses_any (table_checks h rows places) n at tt refused z ∙ same_checks z
+
+    pub rows_counted : Passes (table_checks h rows places) → (z : ℕ) → gives z ≡ checked (survey_checks h table places) z
+    rows_counted counted z = gives_any (table_checks h rows places) tt tt counted z ∙ same_checks z

@@ -57,8 +57,8 @@ fn first_long(table: &[Numbers]) -> Option<usize>
     table.iter().position(Numbers::has_long_period)
 }
 
-// What is checked of the numbers of a table before they are rows: each flaw at every rank before the
-// next, and the smallest rank that has it is told.
+// What is checked of the numbers of a table before they are rows: each flaw at every rank before
+// the next, and the smallest rank that has it is told.
 pub(crate) fn check_numbers(table: &[Numbers]) -> Result<(), Fault>
     requires { length table.now ≤ most_rows }
     ensures { answer (λ u. u) result ≡ checked (table_flaw_checks row_flaws table.now) tt }
@@ -70,7 +70,7 @@ pub(crate) fn check_numbers(table: &[Numbers]) -> Result<(), Fault>
 }
 
 // The rows of the numbers of a table that came through its checks, in their order from the first
-// place on. No numbers that did are refused, whatever position a refusal would tell.
+// place on. No such numbers are refused, so the position that a refusal would tell is not needed.
 pub(crate) fn make_rows(table: &[Numbers]) -> [Row; MOST_ROWS]
     requires few { length table.now ≤ most_rows }
     requires passes { Passes (table_flaw_checks row_flaws table.now) }

@@ -13,11 +13,14 @@ use findings::{check_size, recount};
 use rows::{Fault, Numbers};
 use verdicts::Finding;
 
-/// The survey of a table, as docs/RULES.md has it: judges every place and puts the findings of the
-/// rows into the list, in rank order; the places past the last row stay. Answers how many rows there
-/// are. It is refused in the order of docs/REFUSALS.md, and the list then stays as it was: 1, bad
-/// frame, 9, full table, and 12, short list, tell 0; then 4, idle row, 5, no window, 6, late deadline,
-/// 7, long period, and 8, off frame, tell the smallest rank concerned.
+/// The survey of a table (docs/RULES.md, Surveys): judges every place and puts the findings of the
+/// rows into the list, in rank order; the places past the last row stay. Answers how many rows
+/// there are.
+///
+/// Refused as `findings::check_size` is, with 1, bad frame, 9, full table, and 12, short list, at
+/// 0; then with 4, idle row, 5, no window, 6, late deadline, 7, long period, and 8, off frame, at
+/// the smallest rank that is so (docs/REFUSALS.md). A refused call leaves the list as it was.
+#[tactic(auto, using(crate::proofs::Ordered::numbers_refused, crate::proofs::Ordered::rows_refused, crate::proofs::Ordered::rows_counted))]
 pub fn survey<B: Bound>(
     bound: &B,
     frame: u32,
