@@ -35,7 +35,7 @@ impl Counts {
 ///
 /// Refused as `findings::find` is: 1, bad frame, at 0; 9, full table, at 0; 8, off frame, at the
 /// smallest rank that is off the frame.
-#[tactic(auto, using(crate::proofs::Bracket::fewer_above, crate::proofs::Rearranged::any_order, crate::proofs::TwoCounts::both_are, crate::proofs::TwoCounts::exact_is))]
+#[tactic(auto, using(crate::proofs::TwoCounts::both_told))]
 pub fn count_both<B: Bound>(
     bound: &B,
     frame: u32,
