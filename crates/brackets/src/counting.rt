@@ -21,7 +21,8 @@ pub struct Counts {
 impl Counts {
     /// How many ticks later the row rests by the bound than in exact steps, where it meets by both.
     pub fn gap(&self) -> Option<u32>
-        ensures { result ≡ gap (verdict_rest self.now.exact.verdict) (verdict_rest self.now.bounded.verdict) }
+        ensures { result
+            ≡ gap (verdict_rest self.now.exact.verdict) (verdict_rest self.now.bounded.verdict) }
     {
         match (self.exact.verdict, self.bounded.verdict) {
             (Verdict::Meets(exact), Verdict::Meets(bounded)) => Some(bounded.saturating_sub(exact)),
@@ -45,9 +46,11 @@ pub fn count_both<B: Bound>(
     ensures answered { answer both_found result
         ≡ checked (question_checks frame row.now above.now)
         (row_counts (B.meaning bound.now) frame row.now above.now) }
-    ensures exactly { IfOk result (λ c. verdict_rest c.exact.verdict ≡ exact_rest row.now above.now) }
+    ensures exactly { IfOk result
+        (λ c. verdict_rest c.exact.verdict ≡ exact_rest row.now above.now) }
     ensures between { IfOk result
-        (λ c. LiesBetween (B.meaning bound.now).accuracy row.now above.now (verdict_rest c.bounded.verdict)) }
+        (λ c. LiesBetween (B.meaning bound.now).accuracy row.now above.now
+        (verdict_rest c.bounded.verdict)) }
     ensures brackets { Brackets (B.meaning bound.now) }
     ensures fewer { FewerIsNoLater (B.meaning bound.now) }
     ensures order { OrderIsFree (B.meaning bound.now) }
