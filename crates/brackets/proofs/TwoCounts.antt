@@ -16,7 +16,8 @@ use Rattle.findings.proofs.FixedPoint.{exact_rest_is}
 use Rattle.brackets.specs.declared.counting.Counts.{Counts}
 use Rattle.brackets.specs.Bracketing.{LiesBetween}
 use Rattle.brackets.specs.Counting.{both_found, row_counts}
-use Rattle.brackets.proofs.Bracket.{brackets}
+use Rattle.brackets.proofs.Bracket.{brackets, fewer_above}
+use Rattle.brackets.proofs.Rearranged.{any_order}
 
 module _ (h : ℕ) (r : Row) (above : List Row) where
   -- two findings that are answered are the two of the row
@@ -35,3 +36,6 @@ module _ (h : ℕ) (r : Row) (above : List Row) where
   between {m} laws f answered =
       let is = ap (λ x. x.rest) (given_is (question_checks h r above) _ _ answered) in
       subst (LiesBetween m.accuracy r above) (sym is) (brackets laws h r above (above_stands h r above _ _ answered))
+
+-- what a count in two ways answers by
+pub ruleset both_told = (both_are, exact_is, fewer_above, any_order)

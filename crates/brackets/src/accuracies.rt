@@ -11,8 +11,8 @@ use bounds::{FINEST, LinearTail};
 use findings::{Verdict, find};
 use rows::{Fault, Row};
 
-/// The least accuracy of a linear tail, from 1 to 64, by which a row below others meets, if there is
-/// one (docs/RULES.md, How far two counts part).
+/// The least accuracy of a linear tail, from 1 to 64, by which a row below others meets, if there
+/// is one (docs/RULES.md, How far two counts part).
 ///
 /// Refused as `findings::find` is: 1, bad frame, at 0; 9, full table, at 0; 8, off frame, at the
 /// smallest rank that is off the frame.

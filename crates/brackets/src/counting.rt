@@ -21,7 +21,8 @@ pub struct Counts {
 impl Counts {
     /// How many ticks later the row rests by the bound than in exact steps, where it meets by both.
     pub fn gap(&self) -> Option<u32>
-        ensures { result ≡ gap (verdict_rest self.now.exact.verdict) (verdict_rest self.now.bounded.verdict) }
+        ensures { result
+            ≡ gap (verdict_rest self.now.exact.verdict) (verdict_rest self.now.bounded.verdict) }
     {
         match (self.exact.verdict, self.bounded.verdict) {
             (Verdict::Meets(exact), Verdict::Meets(bounded)) => Some(bounded.saturating_sub(exact)),
@@ -35,7 +36,7 @@ impl Counts {
 ///
 /// Refused as `findings::find` is: 1, bad frame, at 0; 9, full table, at 0; 8, off frame, at the
 /// smallest rank that is off the frame.
-#[tactic(auto, using(crate::proofs::Bracket::fewer_above, crate::proofs::Rearranged::any_order, crate::proofs::TwoCounts::both_are, crate::proofs::TwoCounts::exact_is))]
+#[tactic(auto, using(crate::proofs::TwoCounts::both_told))]
 pub fn count_both<B: Bound>(
     bound: &B,
     frame: u32,
@@ -45,9 +46,11 @@ pub fn count_both<B: Bound>(
     ensures answered { answer both_found result
         ≡ checked (question_checks frame row.now above.now)
         (row_counts (B.meaning bound.now) frame row.now above.now) }
-    ensures exactly { IfOk result (λ c. verdict_rest c.exact.verdict ≡ exact_rest row.now above.now) }
+    ensures exactly { IfOk result
+        (λ c. verdict_rest c.exact.verdict ≡ exact_rest row.now above.now) }
     ensures between { IfOk result
-        (λ c. LiesBetween (B.meaning bound.now).accuracy row.now above.now (verdict_rest c.bounded.verdict)) }
+        (λ c. LiesBetween (B.meaning bound.now).accuracy row.now above.now
+        (verdict_rest c.bounded.verdict)) }
     ensures brackets { Brackets (B.meaning bound.now) }
     ensures fewer { FewerIsNoLater (B.meaning bound.now) }
     ensures order { OrderIsFree (B.meaning bound.now) }

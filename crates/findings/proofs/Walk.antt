@@ -2,14 +2,13 @@
 use Rattle.std.proofs.Common.{◌≡◌, ℕ, zero, suc, ◌+◌, ◌-◌, ◌<◌, ◌≤◌, true, false, ◌&&◌, eqb, ltb, Some, None, Option, unwrap_or, sym, refl, ap, ◌∙◌, subst, ⊎_elim, arith, MatchOption}
 use Rattle.std.proofs.lemmas.Bool.{and_from, and_left, and_parts, and_right, both_ways, cases_lt, eq-eqb, lt-ltb, or_left, or_parts, and_cases}
 use Rattle.rows.specs.Times.{horizon}
-use Rattle.bounds.specs.Instants.{least, count, IsFirst}
+use Rattle.bounds.specs.Instants.{least, count, IsFirst, OnceThenOn}
 use Rattle.bounds.specs.Laws.{Laws}
 use Rattle.bounds.specs.Lemmas.Instants.{least_after, least_some, least_none, least_up_to, count_first}
 use Rattle.findings.specs.Demand.{Load, is_rest}
 use Rattle.findings.specs.Points.{is_bend}
 use Rattle.verdicts.specs.Found.{Found}
 use Rattle.findings.specs.Findings.{first_rest, is_tested, is_resting_point, stop, points, load_finding, Says}
-use Rattle.bounds.specs.Instants.{OnceThenOn}
 use Rattle.findings.specs.Fitting.{StandOn}
 use Rattle.findings.proofs.Turning.{not_before}
 use Rattle.findings.proofs.Amounts.{no_rest_at_start, rests_on}

@@ -20,7 +20,8 @@ const MOST_ABOVE: usize = MOST_ROWS - 1;
 
 // What is checked of a question before anything is counted.
 fn check_question(frame: u32, row: &Row, above: &[Row]) -> Result<(), Fault>
-    ensures answered { answer (λ u. u) result ≡ checked (question_checks frame row.now above.now) tt }
+    ensures answered { answer (λ u. u) result
+        ≡ checked (question_checks frame row.now above.now) tt }
     ensures fit { OnOk result (Fit most_above frame above.now) }
 {
     if !is_frame(frame) {
@@ -46,14 +47,15 @@ pub fn find<B: Bound>(bound: &B, frame: u32, row: &Row, above: &[Row]) -> Result
     ensures answered { answer tells result
         ≡ checked (question_checks frame row.now above.now)
         (row_finding (B.meaning bound.now) frame row.now above.now) }
-    ensures says { IfOk result (λ f. RowSays (B.meaning bound.now) frame row.now above.now (tells f)) }
+    ensures says { IfOk result
+        (λ f. RowSays (B.meaning bound.now) frame row.now above.now (tells f)) }
 {
     check_question(frame, row, above)?;
     Ok(Load::new(bound, frame, row.work, above).search(row.window()))
 }
 
 /// The response time of a row below others in ticks from its release, in exact steps: none where it
-/// misses its deadline (docs/RULES.md, Rests). It does not depend on the frame.
+/// misses its deadline (docs/RULES.md, Rests). It is the same on each frame that the rows stand on.
 ///
 /// Refused as `find` is: 1, bad frame, at 0; 9, full table, at 0; 8, off frame, at the smallest rank
 /// that is off the frame.

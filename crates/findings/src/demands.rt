@@ -41,8 +41,9 @@ impl<'a, B: Bound> Load<'a, B> {
 
     // The least of an instant and the next corners of the rows above.
     fn nearest(&self, after: u32, last: u32) -> u32
-        ensures { result ≡ fold min last
-            (filter_map (λ r. corner_answered (B.meaning self.now.bound.now) self.now.frame r after) self.now.above.now) }
+        ensures { result ≡ fold min last (filter_map
+            (λ r. corner_answered (B.meaning self.now.bound.now) self.now.frame r after)
+            self.now.above.now) }
     {
         self.above
             .iter()

@@ -60,10 +60,11 @@ fn fill<B: Bound>(bound: &B, frame: u32, rows: &[Row], from: usize, list: &mut [
 }
 
 /// The findings of the rows of a table, each below the rows before it, put into the list in rank
-/// order (docs/RULES.md, Findings). The first `from` places stay, and so do those past the last row.
+/// order (docs/RULES.md, Findings). The first `from` places stay, and those past the last row.
 ///
 /// Refused as `check_size` is, with 1, bad frame, 9, full table, and 12, short list, at 0; then with
-/// 8, off frame, at the smallest rank that is off the frame. A refused call leaves the list as it was.
+/// 8, off frame, at the smallest rank that is off the frame. A refused call leaves the list as it
+/// was.
 pub fn recount<B: Bound>(
     bound: &B,
     frame: u32,
@@ -71,7 +72,8 @@ pub fn recount<B: Bound>(
     from: usize,
     list: &mut [Finding],
 ) -> Result<(), Fault>
-    ensures answered { answer (λ u. u) result ≡ checked (table_checks frame rows.now (length list.old)) tt }
+    ensures answered { answer (λ u. u) result
+        ≡ checked (table_checks frame rows.now (length list.old)) tt }
     ensures filled { MatchResult result (λ _. map tells list.new
         ≡ written (map tells list.old) from
         (drop from (findings_of (B.meaning bound.now) frame rows.now)))

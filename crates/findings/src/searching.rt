@@ -35,7 +35,7 @@ impl<'a, B: Bound> Load<'a, B> {
     }
 
     // The finding about a row with this load that may rest up to `last`. From test point to test
-    // point; at the first at which the row rests, the first rest lies between the point before and it.
+    // point; at the first at which the row rests, the first rest lies after the point before it.
     pub(crate) fn search(&self, last: u32) -> Finding
         requires busy { 1 ≤ self.now.own }
         requires some { 1 ≤ last }
