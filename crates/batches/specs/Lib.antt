@@ -1,2 +1,4 @@
 pub mod Batching
+pub mod Making
+pub mod Shown
 pub mod Lemmas

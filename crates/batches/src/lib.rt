@@ -1,30 +1,33 @@
-// Jobs counted in batches: a bound that is brought to the toolkit. It is written as any group would
-// write its own, over what `rows` and `bounds` make public.
+//! Jobs counted in batches: a bound that is brought to the toolkit (docs/OWN_BOUND.md). It is
+//! written as any group would write its own, over what `rows` and `bounds` make public.
 #![tactic(auto)]
 
 ghost use Rattle.std.specs.Prelude.{◌≡◌, ◌^◌, ◌<◌, ◌≤◌};
-ghost use Rattle.rows.specs.Answers.{answer, checked};
 ghost use Rattle.rows.specs.Times.{horizon};
 ghost use Rattle.bounds.specs.Meaning.{finest};
-ghost use Rattle.batches.specs.Batching.{counted, job_count, batches, parameters, batch_checks};
-ghost use Rattle.batches.specs.Lemmas.BatchLaws.{batch_laws};
+ghost use Rattle.batches.specs.Batching.{job_count};
+
+mod errors;
 
 use bounds::{Bound, ExactSteps, FINEST, asked};
-use rows::{Fault, HORIZON, Refusal, Row};
+pub use errors::BatchError;
+use rows::{HORIZON, Refusal, Row};
 
-/// Jobs are counted one by one while they are few, and in whole batches of `size` jobs once they
-/// fill `accuracy` batches: rounding up then adds at most one part in `accuracy`.
+/// Jobs are counted one by one while they are few, and in whole batches of so many jobs once they
+/// fill as many batches as the accuracy says: rounding up then adds at most one part in `accuracy`.
+/// `new` makes it.
 #[derive(Clone, Copy, PartialEq, Eq, Debug)]
 pub struct Batches {
-    pub accuracy: u32,
-    pub size: u32,
-    pub ghost low: { 1 ≤ accuracy },
-    pub ghost high: { accuracy ≤ finest },
-    pub ghost some: { 1 ≤ size },
-    pub ghost near: { size ≤ horizon },
+    accuracy: u32,
+    size: u32,
+    ghost low: { 1 ≤ accuracy },
+    ghost high: { accuracy ≤ finest },
+    ghost some: { 1 ≤ size },
+    ghost near: { size ≤ horizon },
 }
 
 // The most jobs of the row that can ask for work from the moment that it is ready to the instant.
+#[tactic(auto, using(rows::proofs::Ceiling::ceiling_by_quotient))]
 fn job_count(row: &Row, at: u32) -> u64
     ensures { result ≡ job_count row.now at }
 {
@@ -32,25 +35,31 @@ fn job_count(row: &Row, at: u32) -> u64
 }
 
 impl Batches {
-    /// The bound of an accuracy from 1 to 64 and a batch size from 1 to the horizon; refused with
-    /// bad accuracy otherwise.
-    pub fn new(accuracy: u32, size: u32) -> Result<Batches, Fault>
-        ensures { answer (λ b. parameters b.accuracy b.size) result
-            ≡ checked (batch_checks accuracy size) (parameters accuracy size) }
+    ghost use Rattle.batches.specs.Batching.{batch_count};
+    ghost use Rattle.batches.specs.Making.{made, made_by, parameters_of};
+
+    /// The bound of an accuracy from 1 to 64 and a batch size from 1 to the horizon, in jobs
+    /// (docs/OWN_BOUND.md, The example).
+    ///
+    /// Refused with 3, bad accuracy, at 0 for any other accuracy; then, for any other size, by the
+    /// crate's own `BatchError::BadSize`.
+    pub fn new(accuracy: u32, size: u32) -> Result<Batches, BatchError>
+        ensures { made_by result ≡ made accuracy size }
     {
         if accuracy == 0 || accuracy > FINEST {
-            return Err(Refusal::BadAccuracy.at(0));
+            return Err(BatchError::Refused(Refusal::BadAccuracy.at(0)));
         }
         if size == 0 || size > HORIZON {
-            return Err(Refusal::BadAccuracy.at(0));
+            return Err(BatchError::BadSize(size));
         }
         Ok(Batches { accuracy, size })
     }
 
     // How many jobs are counted for a number of jobs.
-    fn counted(&self, jobs: u64) -> u64
+    #[tactic(auto, using(rows::proofs::Ceiling::ceiling_by_quotient))]
+    fn batch_count(&self, jobs: u64) -> u64
         requires { jobs < 2 ^ 32 }
-        ensures { result ≡ counted self.now.accuracy self.now.size jobs }
+        ensures { result ≡ batch_count (parameters_of self.now) jobs }
     {
         let size = u64::from(self.size);
         if jobs < u64::from(self.accuracy) * size {
@@ -62,15 +71,19 @@ impl Batches {
 }
 
 impl Bound for Batches {
-    ghost meaning = { λ b. batches b.accuracy b.size };
+    ghost use Rattle.batches.specs.Batching.{batches};
+    ghost use Rattle.batches.specs.Making.{parameters_of};
+    ghost use Rattle.batches.specs.Lemmas.BatchLaws.{laws_of};
 
-    ghost lawful = { λ s. batch_laws s.accuracy s.size s.low s.high s.some };
+    ghost meaning = { λ b. batches (parameters_of b) };
+
+    ghost lawful = { laws_of };
 
     fn amount(&self, frame: u32, row: &Row, at: u32) -> u64 {
         if !asked(frame, row, at) {
             return 0;
         }
-        let jobs = self.counted(job_count(row, at));
+        let jobs = self.batch_count(job_count(row, at));
         u64::from(frame) * (u64::from(row.work) * jobs)
     }
 

@@ -11,10 +11,10 @@ use Rattle.rows.specs.Counting.{is_on_frame, steps, window}
 use Rattle.bounds.specs.Laws.{Laws}
 use Rattle.bounds.specs.Meaning.{Meaning, is_asked}
 use Rattle.bounds.specs.Supplied.{exact_steps}
-use Rattle.findings.specs.Demand.{load, demand, rests}
+use Rattle.findings.specs.Demand.{load, demand, is_rest}
 use Rattle.findings.specs.Exact.{exact_demand, is_exact_rest, exact_rest}
 use Rattle.findings.specs.Findings.{first_rest}
-use Rattle.findings.proofs.Amounts.{asked_on_frame, frame_low}
+use Rattle.findings.proofs.Amounts.{asked_on_frame}
 use Rattle.findings.proofs.FixedPoint.{sum_scaled, leb_scaled, rests_exactly}
 use Rattle.findings.specs.Fitting.{StandOn}
 use Rattle.brackets.specs.Bracketing.{is_slow_rest, slow_rest, Brackets, FewerIsNoLater}
@@ -27,7 +27,7 @@ sums_le f g (x ∷ xs) all = rw (sum_by-cons f x xs, sum_by-cons g x xs) (omega 
 
 -- what rests by larger amounts rests by smaller ones
 pub rests_by_less : (m m' : Meaning) (h own : ℕ) (above : List Row) (t : ℕ) → All (λ s. m.amount h s t ≤ m'.amount h s t) above
-    → rests (load m' h own above) t ≡ true → rests (load m h own above) t ≡ true
+    → is_rest (load m' h own above) t ≡ true → is_rest (load m h own above) t ≡ true
 rests_by_less m m' h own above t less rest =
     let sums = sums_le (λ s. m.amount h s t) (λ s. m'.amount h s t) above less in
     le-leb (demand (load m h own above) t) (h * t) (omega (arith, leb-true (demand (load m' h own above) t) (h * t) rest))
@@ -42,10 +42,10 @@ all_asked h above t stands near P holds = All-weaker (λ s. is_on_frame h s ≡ 
 
 module _ {m : Meaning} (laws : Laws m) (h : ℕ) (r : Row) (above : List Row) (stands : StandOn h above) (t : ℕ) (near : t ≤ horizon) where
   -- a rest by the bound is a rest in exact steps
-  exact_from_bound : rests (load m h r.work above) t ≡ true → is_exact_rest r above t ≡ true
+  exact_from_bound : is_rest (load m h r.work above) t ≡ true → is_exact_rest r above t ≡ true
   exact_from_bound rest =
       let covers = all_asked h above t stands near (λ s. h * steps s t ≤ m.amount h s t) (λ s. laws.covers h s t) in
-      sym (rests_exactly h r above (frame_low h stands.frame) t) ∙ rests_by_less exact_steps m h r.work above t covers rest
+      sym (rests_exactly h r above stands.frame t) ∙ rests_by_less exact_steps m h r.work above t covers rest
 
   -- the demand by the bound is at most (k + 1) / k times the exact demand
   demand_close : m.accuracy * demand (load m h r.work above) t ≤ h * ((m.accuracy + 1) * exact_demand r above t)
@@ -56,7 +56,7 @@ module _ {m : Meaning} (laws : Laws m) (h : ℕ) (r : Row) (above : List Row) (s
       omega (arith, sum_scaled k (λ s. m.amount h s t) above, sum_scaled ((k + 1) * h) (λ s. steps s t) above)
 
   -- a rest in exact steps at speed k / (k + 1) is a rest by the bound
-  bound_from_slow : is_slow_rest m.accuracy r above t ≡ true → rests (load m h r.work above) t ≡ true
+  bound_from_slow : is_slow_rest m.accuracy r above t ≡ true → is_rest (load m h r.work above) t ≡ true
   bound_from_slow rest =
       let k = m.accuracy in
       let served = mul-le h ((k + 1) * exact_demand r above t) h (k * t) (omega arith) (leb-true ((k + 1) * exact_demand r above t) (k * t) rest) in
@@ -67,7 +67,7 @@ module _ {m : Meaning} (laws : Laws m) (h : ℕ) (r : Row) (above : List Row) (s
 pub brackets : {m : Meaning} → Laws m → Brackets m
 unfolding first_rest exact_rest slow_rest
 brackets {m} laws h r above stands =
-    let rest = rests (load m h r.work above) in
+    let rest = is_rest (load m h r.work above) in
     let slow = no_later rest (is_slow_rest m.accuracy r above) (window r) (λ t _ within. bound_from_slow laws h r above stands t (window_near r t within)) in
     record {
       exact = no_later (is_exact_rest r above) rest (window r) (λ t _ within. exact_from_bound laws h r above stands t (window_near r t within));
@@ -79,7 +79,7 @@ brackets {m} laws h r above stands =
 pub fewer_above : (m : Meaning) → FewerIsNoLater m
 unfolding first_rest
 fewer_above m h r x xs ys =
-    no_later (rests (load m h r.work (xs ++ ys))) (rests (load m h r.work (xs ++ x ∷ ys))) (window r)
+    no_later (is_rest (load m h r.work (xs ++ ys))) (is_rest (load m h r.work (xs ++ x ∷ ys))) (window r)
     (λ t _ _ rest.
     let f : Row → ℕ = λ s. m.amount h s t in
     let served = leb-true (demand (load m h r.work (xs ++ x ∷ ys)) t) (h * t) rest in

@@ -2,6 +2,5 @@ pub mod Earlier
 pub mod Bracket
 pub mod Tails
 pub mod Rearranged
-pub mod Passing
-pub mod Counted
+pub mod TwoCounts
 pub mod Tried

@@ -5,7 +5,7 @@ use Rattle.std.proofs.lemmas.List.Sorted.{sum_by-IsPermutation, list_any-IsPermu
 use Rattle.rows.specs.Counting.{window}
 use Rattle.bounds.specs.Instants.{least, count}
 use Rattle.bounds.specs.Meaning.{Meaning}
-use Rattle.findings.specs.Demand.{load, rests}
+use Rattle.findings.specs.Demand.{load, is_rest}
 use Rattle.verdicts.specs.Found.{Found}
 use Rattle.findings.specs.Findings.{first_rest, stop, points, is_tested}
 use Rattle.brackets.specs.Bracketing.{OrderIsFree}
@@ -18,6 +18,6 @@ found_by last rest point = record { rest = least rest last 1; points = count poi
 pub any_order : (m : Meaning) → OrderIsFree m
 unfolding first_rest stop points
 any_order m h r xs ys same =
-    let rest : (t : ℕ) → rests (load m h r.work xs) t ≡ rests (load m h r.work ys) t = λ t. ap (λ n. leb (h * r.work + n) (h * t)) (sym (sum_by-IsPermutation (λ s. m.amount h s t) xs ys same)) in
+    let rest : (t : ℕ) → is_rest (load m h r.work xs) t ≡ is_rest (load m h r.work ys) t = λ t. ap (λ n. leb (h * r.work + n) (h * t)) (sym (sum_by-IsPermutation (λ s. m.amount h s t) xs ys same)) in
     let point : (t : ℕ) → is_tested (load m h r.work xs) (window r) t ≡ is_tested (load m h r.work ys) (window r) t = λ t. ap (λ b. eqb t (window r) || (ltb t (window r) && b)) (list_any-IsPermutation (λ s. m.is_corner s t) xs ys same) in
     ap₂ (found_by (window r)) (fun_ext rest) (fun_ext point)

@@ -7,7 +7,7 @@ use Rattle.rows.specs.Counting.{steps, window}
 use Rattle.bounds.specs.Supplied.{is_before_tail, linear_tail}
 use Rattle.bounds.specs.Lemmas.Asking.{asked_tells}
 use Rattle.bounds.specs.Lemmas.LinearLaws.{line, below_line}
-use Rattle.findings.specs.Demand.{load, rests}
+use Rattle.findings.specs.Demand.{load, is_rest}
 use Rattle.findings.specs.Findings.{first_rest}
 use Rattle.brackets.specs.Bracketing.{FinerIsNoLater}
 use Rattle.brackets.proofs.Earlier.{no_later}
@@ -30,7 +30,7 @@ module _ (k k' : ℕ) (order : k ≤ k') (h : ℕ) (r : Row) (t : ℕ) where
 pub finer_tails : FinerIsNoLater
 unfolding first_rest
 finer_tails k k' h r above _ order stands =
-    no_later (rests (load (linear_tail k') h r.work above)) (rests (load (linear_tail k) h r.work above)) (window r)
+    no_later (is_rest (load (linear_tail k') h r.work above)) (is_rest (load (linear_tail k) h r.work above)) (window r)
     (λ t _ within.
     let finer = all_asked h above t stands (window_near r t within) (λ s. (linear_tail k').amount h s t ≤ (linear_tail k).amount h s t) (λ s ask. finer_amount k k' order h s t (asked_tells h s t ask).divides) in
     rests_by_less (linear_tail k') (linear_tail k) h r.work above t finer)

@@ -10,7 +10,7 @@ use Rattle.bounds.specs.Supplied.{linear_tail}
 use Rattle.bounds.specs.Lemmas.Instants.{least_some, least_none}
 use Rattle.verdicts.specs.declared.verdicts.Finding.{Finding}
 use Rattle.verdicts.specs.declared.verdicts.Verdict.{Verdict}
-use Rattle.findings.specs.Asking.{checks}
+use Rattle.findings.specs.Asking.{question_checks}
 use Rattle.verdicts.specs.Found.{verdict_rest, tells}
 use Rattle.findings.specs.Findings.{row_finding}
 use Rattle.findings.specs.Fitting.{StandOn}
@@ -21,14 +21,14 @@ use Rattle.brackets.proofs.Tails.{finer_tails}
 module _ (h : ℕ) (r : Row) (above : List Row) where
   -- each accuracy below n was tried: the question was answered, and the row misses by it
   abbrev pub Tried : ℕ → Type 0
-  Tried n = (k : ℕ) → 1 ≤ k → k < n → (gives (tt {0}) ≡ checked (checks h r above) tt) × (has_rest_by h r above k ≡ false)
+  Tried n = (k : ℕ) → 1 ≤ k → k < n → (gives (tt {0}) ≡ checked (question_checks h r above) tt) × (has_rest_by h r above k ≡ false)
 
   -- a finding by the tail made with an accuracy tells whether the row meets by it
   pub tail_meets : (k a : ℕ) (f : Finding) (v : Verdict) → gives k ≡ checked (check (not (is_accuracy a)) 3 0 ∷ []) a
-      → gives (tells f) ≡ checked (checks h r above) (row_finding (linear_tail k) h r above) → f.verdict ≡ v → has_rest_by h r above a ≡ is_some (verdict_rest v)
-  tail_meets k a f v made found is =
-      ap (has_rest_by h r above) (sym (given_is (check (not (is_accuracy a)) 3 0 ∷ []) k a made))
-      ∙ ap (λ x. is_some x.rest) (sym (given_is (checks h r above) _ _ found))
+      → gives (tells f) ≡ checked (question_checks h r above) (row_finding (linear_tail k) h r above) → f.verdict ≡ v → has_rest_by h r above a ≡ is_some (verdict_rest v)
+  tail_meets k a f v given answered is =
+      ap (has_rest_by h r above) (sym (given_is (check (not (is_accuracy a)) 3 0 ∷ []) k a given))
+      ∙ ap (λ x. is_some x.rest) (sym (given_is (question_checks h r above) _ _ answered))
       ∙ ap (λ u. is_some (verdict_rest u)) is
 
   -- from the first accuracy by which the row meets, it meets by all
@@ -39,13 +39,13 @@ module _ (h : ℕ) (r : Row) (above : List Row) where
       (cases_lt k a)
 
   -- that accuracy is the answer
-  pub least_met : {A : Type 0} (x y : A) (a : ℕ) → gives x ≡ checked (checks h r above) y → IsFirst (has_rest_by h r above) 0 finest a
-      → gives (Some a) ≡ checked (checks h r above) (least (has_rest_by h r above) finest 1)
-  least_met x y a found first =
-      gives_any (checks h r above) x y found (Some a) ∙ ap (checked (checks h r above)) (sym (least_some (has_rest_by h r above) finest 0 finest a first first.within))
+  pub least_met : {A : Type 0} (x y : A) (a : ℕ) → gives x ≡ checked (question_checks h r above) y → IsFirst (has_rest_by h r above) 0 finest a
+      → gives (Some a) ≡ checked (question_checks h r above) (least (has_rest_by h r above) finest 1)
+  least_met x y a answered first =
+      gives_any (question_checks h r above) x y answered (Some a) ∙ ap (checked (question_checks h r above)) (sym (least_some (has_rest_by h r above) finest 0 finest a first first.within))
 
   -- where all were tried there is none
-  pub none_met : Tried (finest + 1) → gives None ≡ checked (checks h r above) (least (has_rest_by h r above) finest 1)
+  pub none_met : Tried (finest + 1) → gives None ≡ checked (question_checks h r above) (least (has_rest_by h r above) finest 1)
   none_met tried =
       let none = least_none (has_rest_by h r above) finest 0 (λ k low high. (tried k low (omega arith)).1) in
-      gives_any (checks h r above) tt tt (tried 1 (omega arith) (omega arith)).0 None ∙ ap (checked (checks h r above)) (sym none)
+      gives_any (question_checks h r above) tt tt (tried 1 (omega arith) (omega arith)).0 None ∙ ap (checked (question_checks h r above)) (sym none)

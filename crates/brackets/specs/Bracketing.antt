@@ -24,30 +24,38 @@ is_slow_rest k r above t = nat_le ((k + 1) * exact_demand r above t) (k * t)
 unfoldable pub slow_rest : ℕ → Row → List Row → Option ℕ
 slow_rest k r above = least (is_slow_rest k r above) (window r) 1
 
--- a first rest of a row by a bound of accuracy k, or none, lies between those in exact steps at full
--- speed and at speed k / (k + 1)
+-- a first rest of a row by a bound of accuracy k, or none, lies between those in exact steps at
+-- full speed and at speed k / (k + 1)
 pub record LiesBetween (k : ℕ) (r : Row) (above : List Row) (bounded : Option ℕ) : Type 0 where
   -- a row that meets by the bound meets in exact steps, and its exact first rest is no later
   pub exact : IsNoLater (exact_rest r above) bounded
-  -- where the row has a first rest in exact steps at speed k / (k + 1), it has one by the bound, and that is no later
+  -- where the row has a first rest in exact steps at speed k / (k + 1), it has one by the bound, and
+  -- that is no later
   pub slow : IsNoLater bounded (slow_rest k r above)
   -- a row that misses by the bound misses at that speed
   pub misses : bounded ≡ None → slow_rest k r above ≡ None
 
 -- so does every first rest by the bound, of any row below any others that stand on a frame
 abbrev pub Brackets : Meaning → Type 0
-Brackets m = (h : ℕ) (r : Row) (above : List Row) → StandOn h above → LiesBetween m.accuracy r above (row_finding m h r above).rest
+Brackets m =
+    (h : ℕ) (r : Row) (above : List Row) → StandOn h above
+    → LiesBetween m.accuracy r above (row_finding m h r above).rest
 
 -- what meets by a linear tail meets by every more accurate one, and rests no later
 abbrev pub FinerIsNoLater : Type 0
-FinerIsNoLater = (k k' h : ℕ) (r : Row) (above : List Row) → 1 ≤ k → k ≤ k' → StandOn h above
-    → IsNoLater (row_finding (linear_tail k') h r above).rest (row_finding (linear_tail k) h r above).rest
+FinerIsNoLater =
+    (k k' h : ℕ) (r : Row) (above : List Row) → 1 ≤ k → k ≤ k' → StandOn h above
+    → IsNoLater (row_finding (linear_tail k') h r above).rest
+    (row_finding (linear_tail k) h r above).rest
 
 -- a row that meets still meets, and rests no later, with a row above it taken away
 abbrev pub FewerIsNoLater : Meaning → Type 0
-FewerIsNoLater m = (h : ℕ) (r x : Row) (xs ys : List Row)
+FewerIsNoLater m =
+    (h : ℕ) (r x : Row) (xs ys : List Row)
     → IsNoLater (row_finding m h r (xs ++ ys)).rest (row_finding m h r (xs ++ x ∷ ys)).rest
 
 -- the order of the rows above does not matter to a finding
 abbrev pub OrderIsFree : Meaning → Type 0
-OrderIsFree m = (h : ℕ) (r : Row) (xs ys : List Row) → IsPermutation xs ys → row_finding m h r xs ≡ row_finding m h r ys
+OrderIsFree m =
+    (h : ℕ) (r : Row) (xs ys : List Row) → IsPermutation xs ys
+    → row_finding m h r xs ≡ row_finding m h r ys

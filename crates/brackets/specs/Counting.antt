@@ -7,18 +7,13 @@ use Rattle.verdicts.specs.Found.{Found, tells}
 use Rattle.findings.specs.Findings.{row_finding}
 use Rattle.brackets.specs.declared.counting.Counts.{Counts}
 
--- two findings about a row in numbers: in exact steps and by a bound
-pub record Counted : Type 0 where
-  pub exact : Found
-  pub bounded : Found
+-- what two counts tell, in numbers: the finding in exact steps, and that by a bound
+abbrev pub both_found : Counts → Found × Found
+both_found c = (tells c.exact, tells c.bounded)
 
--- what two counts tell, in numbers
-abbrev pub both : Counts → Counted
-both c = record { exact = tells c.exact; bounded = tells c.bounded }
-
--- the two findings about a row below others, at a frame
-abbrev pub row_counted : Meaning → ℕ → Row → List Row → Counted
-row_counted m h r above = record { exact = row_finding exact_steps h r above; bounded = row_finding m h r above }
+-- the two findings about a row below others, at a frame: in exact steps, and by a bound
+abbrev pub row_counts : Meaning → ℕ → Row → List Row → Found × Found
+row_counts m h r above = (row_finding exact_steps h r above, row_finding m h r above)
 
 -- how much later the first rest b comes than a, where there are both
 abbrev pub gap : Option ℕ → Option ℕ → Option ℕ

@@ -1,11 +1,11 @@
 // A row counted twice, and how far apart the counts are.
 ghost use Rattle.std.specs.Prelude.{◌≡◌, IfOk};
 ghost use Rattle.rows.specs.Answers.{answer, checked};
-ghost use Rattle.findings.specs.Asking.{checks};
+ghost use Rattle.findings.specs.Asking.{question_checks};
 ghost use Rattle.findings.specs.Exact.{exact_rest};
 ghost use Rattle.verdicts.specs.Found.{verdict_rest};
 ghost use Rattle.brackets.specs.Bracketing.{OrderIsFree, LiesBetween, Brackets, FewerIsNoLater};
-ghost use Rattle.brackets.specs.Counting.{both, gap, row_counted};
+ghost use Rattle.brackets.specs.Counting.{both_found, gap, row_counts};
 
 use bounds::{Bound, ExactSteps};
 use findings::{Finding, Verdict, find};
@@ -19,9 +19,10 @@ pub struct Counts {
 }
 
 impl Counts {
-    /// How much later the row rests by the bound than in exact steps, where it meets by both.
+    /// How many ticks later the row rests by the bound than in exact steps, where it meets by both.
     pub fn gap(&self) -> Option<u32>
-        ensures { result ≡ gap (verdict_rest self.now.exact.verdict) (verdict_rest self.now.bounded.verdict) }
+        ensures { result
+            ≡ gap (verdict_rest self.now.exact.verdict) (verdict_rest self.now.bounded.verdict) }
     {
         match (self.exact.verdict, self.bounded.verdict) {
             (Verdict::Meets(exact), Verdict::Meets(bounded)) => Some(bounded.saturating_sub(exact)),
@@ -30,19 +31,26 @@ impl Counts {
     }
 }
 
-/// The findings about a row below others, in exact steps and by a bound.
+/// The findings about a row below others, in exact steps and by a bound (docs/RULES.md, How far two
+/// counts part).
+///
+/// Refused as `findings::find` is: 1, bad frame, at 0; 9, full table, at 0; 8, off frame, at the
+/// smallest rank that is off the frame.
+#[tactic(auto, using(crate::proofs::TwoCounts::both_told))]
 pub fn count_both<B: Bound>(
     bound: &B,
     frame: u32,
     row: &Row,
     above: &[Row],
 ) -> Result<Counts, Fault>
-    ensures counted { answer both result
-        ≡ checked (checks frame row.now above.now)
-        (row_counted (B.meaning bound.now) frame row.now above.now) }
-    ensures exactly { IfOk result (λ c. verdict_rest c.exact.verdict ≡ exact_rest row.now above.now) }
+    ensures answered { answer both_found result
+        ≡ checked (question_checks frame row.now above.now)
+        (row_counts (B.meaning bound.now) frame row.now above.now) }
+    ensures exactly { IfOk result
+        (λ c. verdict_rest c.exact.verdict ≡ exact_rest row.now above.now) }
     ensures between { IfOk result
-        (λ c. LiesBetween (B.meaning bound.now).accuracy row.now above.now (verdict_rest c.bounded.verdict)) }
+        (λ c. LiesBetween (B.meaning bound.now).accuracy row.now above.now
+        (verdict_rest c.bounded.verdict)) }
     ensures brackets { Brackets (B.meaning bound.now) }
     ensures fewer { FewerIsNoLater (B.meaning bound.now) }
     ensures order { OrderIsFree (B.meaning bound.now) }

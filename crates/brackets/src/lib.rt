@@ -1,4 +1,4 @@
-// Findings bracketed: a bound lies between the exact count and the exact count on a slower processor.
+//! Findings bracketed: a bound lies between the exact count at full speed and at a lower one.
 #![tactic(auto)]
 
 mod accuracies;

@@ -1,8 +1,8 @@
-// The worked table surveyed by a bound from outside, and the refusals of that bound.
+// The worked table surveyed by a bound from outside, and why such a bound is not made.
 use crate::building::{meets, misses, numbers, row};
-use batches::Batches;
+use batches::{BatchError, Batches};
 use bounds::Bound;
-use rows::{Fault, HORIZON, Refusal};
+use rows::{HORIZON, Refusal};
 use std::test::Fail;
 use tables::survey;
 
@@ -16,8 +16,7 @@ fn the_worked_table_by_batches(rt: HostRuntime) -> Result<(), Fail> {
     ];
     let mut list = [misses(7); 4];
     assert_eq!(rt; survey(&Batches::new(1, 2)?, 12, &table, &mut list)?, 3);
-    assert_eq!(rt; (list[0], list[1]), (meets(1, 1), meets(3, 1)));
-    assert_eq!(rt; (list[2], list[3]), (meets(11, 4), misses(7)));
+    assert_eq!(rt; list, [meets(1, 1), meets(3, 1), meets(11, 4), misses(7)]);
     Ok(())
 }
 
@@ -25,30 +24,29 @@ fn the_worked_table_by_batches(rt: HostRuntime) -> Result<(), Fail> {
 fn amounts_in_batches(rt: HostRuntime) -> Result<(), Fail> {
     let a = row(1, 4, 4, 0)?;
     let pairs = Batches::new(1, 2)?;
-    assert_eq!(rt;
-        (pairs.amount(12, &a, 4), pairs.amount(12, &a, 5)),
-        (12, 24)
-    );
-    assert_eq!(rt;
-        (pairs.amount(12, &a, 9), pairs.amount(12, &a, 13)),
-        (48, 48)
-    );
+    for (at, amount) in [(4, 12), (5, 24), (9, 48), (13, 48)] {
+        assert_eq!(rt; pairs.amount(12, &a, at), amount);
+    }
     assert_eq!(rt; (pairs.accuracy(), pairs.most()), (1, HORIZON));
     assert_eq!(rt; pairs.next_corner(12, &a, 4), Some(8));
     Ok(())
 }
 
 // The accuracy of the bound that is made with k and a batch size.
-fn made(k: u32, size: u32) -> Result<u32, Fault> {
+fn made(k: u32, size: u32) -> Result<u32, BatchError> {
     Ok(Batches::new(k, size)?.accuracy())
 }
 
+// An accuracy is refused before a size.
 #[test]
 fn accuracies_and_sizes(rt: HostRuntime) -> Result<(), Fail> {
     assert_eq!(rt; (made(1, 1)?, made(64, HORIZON)?), (1, 64));
-    assert_eq!(rt; made(0, 1), Err(Refusal::BadAccuracy.at(0)));
-    assert_eq!(rt; made(65, 1), Err(Refusal::BadAccuracy.at(0)));
-    assert_eq!(rt; made(1, 0), Err(Refusal::BadAccuracy.at(0)));
-    assert_eq!(rt; made(1, HORIZON + 1), Err(Refusal::BadAccuracy.at(0)));
+    let bad = BatchError::Refused(Refusal::BadAccuracy.at(0));
+    for (k, size) in [(0, 1), (65, 1), (0, 0)] {
+        assert_eq!(rt; made(k, size), Err(bad));
+    }
+    for size in [0, HORIZON + 1] {
+        assert_eq!(rt; made(1, size), Err(BatchError::BadSize(size)));
+    }
     Ok(())
 }

@@ -1,6 +1,6 @@
 // Short ways to write down rows and findings.
-use findings::{Finding, Verdict};
 use rows::{Fault, Numbers, Row};
+use verdicts::{Finding, Verdict};
 
 // Four plain numbers: work, deadline, period and jitter.
 pub(crate) fn numbers(work: u32, deadline: u32, period: u32, jitter: u32) -> Numbers {

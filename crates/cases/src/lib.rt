@@ -1,4 +1,4 @@
-// Examples of the toolkit's calls, as tests: numbers at the edges, and answers counted by hand.
+//! Examples of the toolkit's calls, as tests: numbers at the edges, and answers counted by hand.
 #![tactic(auto)]
 
 #[cfg(test)]

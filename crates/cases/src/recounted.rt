@@ -10,10 +10,10 @@ fn the_front_of_the_list_stays(rt: HostRuntime) -> Result<(), Fail> {
     let table = [row(1, 4, 4, 0)?, row(2, 6, 6, 1)?, row(3, 12, 12, 0)?];
     let mut list = [misses(7); 4];
     recount(&ExactSteps, 12, &table, 1, &mut list)?;
-    assert_eq!(rt; (list[0], list[1]), (misses(7), meets(3, 1)));
-    assert_eq!(rt; (list[2], list[3]), (meets(10, 4), misses(7)));
+    let counted = [misses(7), meets(3, 1), meets(10, 4), misses(7)];
+    assert_eq!(rt; list, counted);
     recount(&ExactSteps, 12, &table, 9, &mut list)?;
-    assert_eq!(rt; (list[0], list[2]), (misses(7), meets(10, 4)));
+    assert_eq!(rt; list, counted);
     Ok(())
 }
 
@@ -21,13 +21,14 @@ fn the_front_of_the_list_stays(rt: HostRuntime) -> Result<(), Fail> {
 fn refusals_leave_the_list(rt: HostRuntime) -> Result<(), Fail> {
     let on = row(1, 6, 6, 0)?;
     let off = row(1, 5, 5, 0)?;
+    let crowd = [off; 33];
     let mut list = [misses(7); 2];
     assert_eq!(rt;
-        recount(&ExactSteps, 0, &[off; 33], 0, &mut list),
+        recount(&ExactSteps, 0, &crowd, 0, &mut list),
         Err(Refusal::BadFrame.at(0))
     );
     assert_eq!(rt;
-        recount(&ExactSteps, 6, &[off; 33], 0, &mut list),
+        recount(&ExactSteps, 6, &crowd, 0, &mut list),
         Err(Refusal::FullTable.at(0))
     );
     assert_eq!(rt;
@@ -38,6 +39,6 @@ fn refusals_leave_the_list(rt: HostRuntime) -> Result<(), Fail> {
         recount(&ExactSteps, 6, &[on, off], 0, &mut list),
         Err(Refusal::OffFrame.at(2))
     );
-    assert_eq!(rt; (list[0], list[1]), (misses(7), misses(7)));
+    assert_eq!(rt; list, [misses(7); 2]);
     Ok(())
 }

@@ -1,10 +1,11 @@
-// Surveys of whole tables: how many rows, which refusal comes first, and what the list holds afterwards.
+// Surveys of whole tables: how many rows, which refusal comes first, and what the list holds
+// afterwards.
 use crate::building::{meets, misses, numbers};
-use bounds::{ExactSteps, LinearTail};
-use findings::Finding;
+use bounds::{ExactSteps, LinearTail, Supplied};
 use rows::{Fault, HORIZON, Numbers, Refusal};
 use std::test::Fail;
 use tables::survey;
+use verdicts::Finding;
 
 // What a survey in exact steps answers, and the first two places of its list of three afterwards.
 fn answered(frame: u32, table: &[Numbers]) -> (Result<usize, Fault>, Finding, Finding) {
@@ -37,14 +38,31 @@ fn places_past_the_last_row_stay(rt: HostRuntime) -> Result<(), Fail> {
     ];
     let mut list = [misses(7); 4];
     assert_eq!(rt; survey(&LinearTail::new(2)?, 12, &table, &mut list)?, 3);
-    assert_eq!(rt; (list[0], list[1]), (meets(1, 1), meets(3, 1)));
-    assert_eq!(rt; (list[2], list[3]), (misses(3), misses(7)));
+    assert_eq!(rt; list, [meets(1, 1), meets(3, 1), misses(3), misses(7)]);
     let mut short = [misses(7); 2];
     assert_eq!(rt;
         survey(&ExactSteps, 12, &table, &mut short),
         Err(Refusal::ShortList.at(0))
     );
-    assert_eq!(rt; (short[0], short[1]), (misses(7), misses(7)));
+    assert_eq!(rt; short, [misses(7); 2]);
+    Ok(())
+}
+
+// The worked table by a supplied bound: as by the bound that it names.
+#[test]
+fn surveys_by_supplied_bounds(rt: HostRuntime) -> Result<(), Fail> {
+    let table = [
+        numbers(1, 4, 4, 0),
+        numbers(2, 6, 6, 1),
+        numbers(3, 12, 12, 0),
+    ];
+    let mut list = [misses(7); 3];
+    let steps = Supplied::ExactSteps;
+    assert_eq!(rt; survey(&steps, 12, &table, &mut list)?, 3);
+    assert_eq!(rt; list, [meets(1, 1), meets(3, 1), meets(10, 4)]);
+    let tail = Supplied::LinearTail(LinearTail::new(2)?);
+    assert_eq!(rt; survey(&tail, 12, &table, &mut list)?, 3);
+    assert_eq!(rt; list, [meets(1, 1), meets(3, 1), misses(3)]);
     Ok(())
 }
 
@@ -69,11 +87,9 @@ fn as_many_rows_as_may_stand(rt: HostRuntime) -> Result<(), Fail> {
 #[test]
 fn what_concerns_no_row_comes_first(rt: HostRuntime) {
     let crowd = [numbers(0, 0, 0, 0); 33];
-    assert_eq!(rt; answered(0, &crowd), refused(Refusal::BadFrame.at(0)));
-    assert_eq!(rt;
-        answered(HORIZON + 1, &crowd),
-        refused(Refusal::BadFrame.at(0))
-    );
+    for frame in [0, HORIZON + 1] {
+        assert_eq!(rt; answered(frame, &crowd), refused(Refusal::BadFrame.at(0)));
+    }
     assert_eq!(rt; answered(1, &crowd), refused(Refusal::FullTable.at(0)));
     let four = [numbers(0, 0, 0, 0); 4];
     assert_eq!(rt; answered(1, &four), refused(Refusal::ShortList.at(0)));
@@ -88,44 +104,30 @@ fn the_smaller_number_comes_before_the_smaller_rank(rt: HostRuntime) {
     let late = numbers(1, 7, 6, 0);
     let long = numbers(1, 1, HORIZON + 1, 0);
     let off = numbers(1, 5, 5, 0);
-    assert_eq!(rt;
-        answered(6, &[windowless, idle]),
-        refused(Refusal::IdleRow.at(2))
-    );
-    assert_eq!(rt;
-        answered(6, &[late, windowless]),
-        refused(Refusal::NoWindow.at(2))
-    );
-    assert_eq!(rt;
-        answered(6, &[long, late]),
-        refused(Refusal::LateDeadline.at(2))
-    );
-    assert_eq!(rt;
-        answered(6, &[off, long]),
-        refused(Refusal::LongPeriod.at(2))
-    );
-    assert_eq!(rt; answered(6, &[good, off]), refused(Refusal::OffFrame.at(2)));
+    let cases = [
+        (windowless, idle, Refusal::IdleRow),
+        (late, windowless, Refusal::NoWindow),
+        (long, late, Refusal::LateDeadline),
+        (off, long, Refusal::LongPeriod),
+        (good, off, Refusal::OffFrame),
+    ];
+    for (first, second, refusal) in cases {
+        assert_eq!(rt; answered(6, &[first, second]), refused(refusal.at(2)));
+    }
 }
 
 // A row with several flaws is refused for the first of them.
 #[test]
 fn one_row_with_several_flaws(rt: HostRuntime) {
-    assert_eq!(rt;
-        answered(6, &[numbers(0, 1, 6, 9)]),
-        refused(Refusal::IdleRow.at(1))
-    );
-    assert_eq!(rt;
-        answered(6, &[numbers(9, 8, 7, 0)]),
-        refused(Refusal::NoWindow.at(1))
-    );
-    assert_eq!(rt;
-        answered(6, &[numbers(1, u32::MAX, HORIZON + 1, 0)]),
-        refused(Refusal::LateDeadline.at(1))
-    );
-    assert_eq!(rt;
-        answered(6, &[numbers(1, 1, HORIZON + 1, 0)]),
-        refused(Refusal::LongPeriod.at(1))
-    );
+    let cases = [
+        (numbers(0, 1, 6, 9), Refusal::IdleRow),
+        (numbers(9, 8, 7, 0), Refusal::NoWindow),
+        (numbers(1, u32::MAX, HORIZON + 1, 0), Refusal::LateDeadline),
+        (numbers(1, 1, HORIZON + 1, 0), Refusal::LongPeriod),
+    ];
+    for (four, refusal) in cases {
+        assert_eq!(rt; answered(6, &[four]), refused(refusal.at(1)));
+    }
 }
 
 // Of the rows with one flaw the first is told, also past rows with others.
@@ -134,16 +136,12 @@ fn the_smallest_rank_is_told(rt: HostRuntime) {
     let good = numbers(1, 6, 6, 0);
     let idle = numbers(0, 9, 6, 9);
     let off = numbers(1, 5, 5, 0);
-    assert_eq!(rt;
-        answered(6, &[good, idle, idle]),
-        refused(Refusal::IdleRow.at(2))
-    );
-    assert_eq!(rt;
-        answered(6, &[off, good, idle]),
-        refused(Refusal::IdleRow.at(3))
-    );
-    assert_eq!(rt;
-        answered(6, &[off, off, off]),
-        refused(Refusal::OffFrame.at(1))
-    );
+    let cases = [
+        ([good, idle, idle], Refusal::IdleRow.at(2)),
+        ([off, good, idle], Refusal::IdleRow.at(3)),
+        ([off, off, off], Refusal::OffFrame.at(1)),
+    ];
+    for (table, fault) in cases {
+        assert_eq!(rt; answered(6, &table), refused(fault));
+    }
 }

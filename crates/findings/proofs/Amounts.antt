@@ -13,9 +13,10 @@ use Rattle.bounds.specs.Meaning.{Meaning, is_asked}
 use Rattle.bounds.specs.Answering.{amount_answered}
 use Rattle.bounds.proofs.Fitting.{largest, amount_small}
 use Rattle.findings.specs.Asking.{most_above}
-use Rattle.findings.specs.Demand.{Load, demand, rests}
+use Rattle.findings.specs.Demand.{Load, above_demand, demand, is_rest}
 use Rattle.findings.specs.Points.{is_bend}
-use Rattle.findings.specs.Fitting.{StandOn, OnceThenOn}
+use Rattle.bounds.specs.Instants.{OnceThenOn}
+use Rattle.findings.specs.Fitting.{StandOn, Fit}
 use Rattle.findings.proofs.Turning.{on_from}
 
 -- a row on the frame, at an instant up to the horizon, is one that a bound is asked about
@@ -49,30 +50,41 @@ module _ {m : Meaning} (laws : Laws m) where
       rw (sum_by-cons (λ r. m.amount h r t) r rs, sum_by-cons (λ r. m.amount h r (suc t)) r rs, sum_by-cons (λ r. m.amount h r (suc (suc t))) r rs)
       (omega (arith, sum_bends h rs t frame (All-tail (λ s. is_on_frame h s ≡ true) r rs on) near parts.1))
 
--- what a bound answers about rows on the frame are the amounts of its meaning
-pub sum_answered : (m : Meaning) (h : ℕ) (rs : List Row) (t : ℕ) → is_frame h ≡ true → AllPass (is_on_frame h) rs → t ≤ horizon → sum_by (λ r. amount_answered m h r t) rs ≡ sum_by (λ r. m.amount h r t) rs
-sum_answered m h [] t frame on near = refl
-sum_answered m h (r ∷ rs) t frame on near =
-    let here = cond-true (is_asked h r t) (m.amount h r t) 0 (asked_on_frame h r t frame (All-head (λ s. is_on_frame h s ≡ true) r rs on) near) in
-    rw (sum_by-cons (λ s. amount_answered m h s t) r rs, sum_by-cons (λ s. m.amount h s t) r rs) (ap₂ (λ x y. x + y) here (sum_answered m h rs t frame (All-tail (λ s. is_on_frame h s ≡ true) r rs on) near))
+-- what a bound answers about rows that stand on a frame are the amounts of its meaning
+pub sum_answered : (m : Meaning) (h : ℕ) (rs : List Row) (t : ℕ) → StandOn h rs → t ≤ horizon → sum_by (λ r. amount_answered m h r t) rs ≡ sum_by (λ r. m.amount h r t) rs
+sum_answered m h [] t stands near = refl
+sum_answered m h (r ∷ rs) t stands near =
+    let here = cond-true (is_asked h r t) (m.amount h r t) 0 (asked_on_frame h r t stands.frame (All-head (λ s. is_on_frame h s ≡ true) r rs stands.on) near) in
+    let others : StandOn h rs = record { frame = stands.frame; on = All-tail (λ s. is_on_frame h s ≡ true) r rs stands.on } in
+    rw (sum_by-cons (λ s. amount_answered m h s t) r rs, sum_by-cons (λ s. m.amount h s t) r rs) (ap₂ (λ x y. x + y) here (sum_answered m h rs t others near))
+
+-- the demand fits 64 bits
+module _ (l : Load) (laws : Laws l.bound) (fit : Fit most_above l.frame l.above) (t : ℕ) (near : t ≤ horizon) where
+  -- what the rows above can demand is at most as many times the largest amount as rows can stand above another
+  above_small : above_demand l t ≤ most_above * largest
+  above_small =
+      let rows = mul-le (length l.above) largest most_above largest fit.few (omega arith) in
+      omega (arith, sum_small laws l.frame l.above t fit.stands.frame fit.stands.on near)
+
+  -- so does the sum of what the bound answers
+  pub answers_fit : sum_by (λ r. amount_answered l.bound l.frame r t) l.above < 2 ^ 64
+  answers_fit = rw (sum_answered l.bound l.frame l.above t fit.stands near) (omega (arith, above_small))
+
+  -- and with it the own work
+  pub demand_fits : l.own < 2 ^ 32 → demand l t < 2 ^ 64
+  demand_fits small =
+      let own = mul-le l.frame l.own horizon (2 ^ 32) (frame_high l.frame fit.stands.frame) (omega arith) in
+      omega (arith, above_small)
 
 module _ (l : Load) (laws : Laws l.bound) (stands : StandOn l.frame l.above) where
-  -- the demand fits 64 bits with room to spare
-  pub demand_small : (t : ℕ) → length l.above ≤ most_above → t ≤ horizon → l.own < 2 ^ 32 → demand l t < 2 ^ 63
-  demand_small t few near fits =
-      let sum = sum_small laws l.frame l.above t stands.frame stands.on near in
-      let rows = mul-le (length l.above) largest most_above largest few (omega arith) in
-      let own : l.frame * l.own ≤ 16777216 * 4294967296 = mul-le l.frame l.own 16777216 4294967296 (frame_high l.frame stands.frame) (omega arith) in
-      omega arith
-
   -- nothing is served at 0
-  pub no_rest_at_start : 1 ≤ l.own → rests l 0 ≡ false
+  pub no_rest_at_start : 1 ≤ l.own → is_rest l 0 ≡ false
   no_rest_at_start busy =
       let some : 1 * 1 ≤ l.frame * l.own = mul-le 1 1 l.frame l.own (frame_low l.frame stands.frame) busy in
       lt-leb (demand l 0) (l.frame * 0) (omega arith)
 
   -- once the row rests between p and q, it rests from there to q, where no row above has a corner between them
-  pub rests_on : (p q : ℕ) → q ≤ horizon → rests l p ≡ false → ((t : ℕ) → p < t → t < q → is_bend l.bound l.above t ≡ false) → OnceThenOn (rests l) p q
+  pub rests_on : (p q : ℕ) → q ≤ horizon → is_rest l p ≡ false → ((t : ℕ) → p < t → t < q → is_bend l.bound l.above t ≡ false) → OnceThenOn (is_rest l) p q
   rests_on p q near late straight i j after low high rest =
       let e : i + (j - i) ≡ j = omega arith in
       let on =

@@ -1,20 +1,21 @@
 -- In exact steps the first rest is the least fixed point of the demand.
-use Rattle.std.proofs.Common.{◌≡◌, ℕ, zero, suc, ◌+◌, ◌*◌, ◌<◌, ◌≤◌, false, leb, List, [], ◌∷◌, Some, None, sum_by, Option, sym, refl, ap, ◌∙◌, ⊎_elim, arith, MatchOption}
+use Rattle.std.proofs.Common.{◌≡◌, ℕ, zero, suc, ◌+◌, ◌*◌, ◌<◌, ◌≤◌, true, false, leb, List, [], ◌∷◌, Some, None, sum_by, Option, sym, refl, ap, ◌∙◌, ⊎_elim, arith, MatchOption}
 use Rattle.std.proofs.Math.Path.{fun_ext}
 use Rattle.std.specs.Option.{option_map}
 use Rattle.std.proofs.lemmas.Nat.{mul-le}
 use Rattle.std.proofs.lemmas.List.Sums.{sum_by-cons}
 use Rattle.std.proofs.lemmas.Bool.{cases_lt, le-leb, leb-false, leb-true, lt-leb}
 use Rattle.rows.specs.declared.tasks.Row.{Row}
+use Rattle.rows.specs.Times.{is_frame}
 use Rattle.rows.specs.Counting.{window, steps}
 use Rattle.bounds.specs.Instants.{least, IsFirst}
 use Rattle.bounds.specs.Supplied.{exact_steps}
 use Rattle.bounds.specs.Lemmas.Instants.{least_up_to}
 use Rattle.rows.proofs.Rising.{steps_grow}
-use Rattle.findings.specs.Demand.{load, rests}
+use Rattle.findings.specs.Demand.{load, is_rest}
 use Rattle.findings.specs.Exact.{exact_demand, is_exact_rest, exact_rest, response, IsLeastFixedPoint, Responds}
-use Rattle.verdicts.specs.Found.{Found}
-use Rattle.findings.specs.Findings.{first_rest, finding, row_finding}
+use Rattle.findings.specs.Findings.{first_rest, row_finding}
+use Rattle.findings.proofs.Amounts.{frame_low}
 
 -- a factor goes before a sum
 pub sum_scaled : {X : Type 0} (h : ℕ) (f : X → ℕ) (xs : List X) → sum_by (λ x. h * f x) xs ≡ h * sum_by f xs
@@ -29,16 +30,12 @@ leb_scaled h a b some =
     (λ (under : a ≤ b). le-leb (h * a) (h * b) (mul-le h a h b (omega arith) under) ∙ sym (le-leb a b under))
     (cases_lt b a)
 
--- what is found up to an instant that is the window is the finding about the row
-pub found_at_window : (h : ℕ) (r : Row) (above : List Row) (f : Found) (last : ℕ) → last ≡ window r → f ≡ finding (load exact_steps h r.work above) last → f ≡ row_finding exact_steps h r above
-found_at_window h r above f last e found = found ∙ ap (finding (load exact_steps h r.work above)) e
-
-module _ (h : ℕ) (r : Row) (above : List Row) (some : 1 ≤ h) where
+module _ (h : ℕ) (r : Row) (above : List Row) (frame : is_frame h ≡ true) where
   -- by exact steps a row rests where it does with no frame
-  pub rests_exactly : (t : ℕ) → rests (load exact_steps h r.work above) t ≡ is_exact_rest r above t
+  pub rests_exactly : (t : ℕ) → is_rest (load exact_steps h r.work above) t ≡ is_exact_rest r above t
   rests_exactly t =
       let whole : h * r.work + sum_by (λ s. h * steps s t) above ≡ h * exact_demand r above t = omega (arith, sum_scaled h (λ s. steps s t) above) in
-      ap (λ n. leb n (h * t)) whole ∙ leb_scaled h (exact_demand r above t) t some
+      ap (λ n. leb n (h * t)) whole ∙ leb_scaled h (exact_demand r above t) t (frame_low h frame)
 
   -- so its first rest by exact steps is the one with no frame
   pub exact_rest_is : (row_finding exact_steps h r above).rest ≡ exact_rest r above

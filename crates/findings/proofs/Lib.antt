@@ -1,7 +1,7 @@
 pub mod Turning
 pub mod Amounts
 pub mod Nearest
-pub mod Standing
+pub mod OnFrame
 pub mod Walk
 pub mod FixedPoint
 pub mod Tables

@@ -10,7 +10,9 @@ use Rattle.bounds.specs.Instants.{least, IsFirst}
 use Rattle.bounds.specs.Meaning.{Meaning}
 use Rattle.bounds.specs.Answering.{corner_answered}
 use Rattle.bounds.specs.Lemmas.Instants.{least_after}
-use Rattle.findings.specs.Points.{is_test_point}
+use Rattle.findings.specs.Demand.{Load}
+use Rattle.findings.specs.Findings.{is_tested}
+use Rattle.findings.specs.Fitting.{StandOn}
 use Rattle.findings.proofs.Amounts.{asked_on_frame}
 
 -- a first instant is one for another test that finds nothing earlier and holds there
@@ -75,17 +77,19 @@ module _ (m : Meaning) (h last after : ℕ) (frame : is_frame h ≡ true) (near 
       spread false false x y = refl
 
       with_row : (u : ℕ) → Leads rs (seen_more m last r seen) u → IsFirst (seen_more m last r seen) after last u → IsFirst (λ i. seen i || (ltb i last && (m.is_corner r i || list_any (λ s. m.is_corner s i) rs))) after last (nearest u rs)
-      with_row u rest found =
-          first_like _ _ after last (nearest u rs) (rest (All-tail (λ s. is_on_frame h s ≡ true) r rs on) found)
+      with_row u others found =
+          first_like _ _ after last (nearest u rs) (others (All-tail (λ s. is_on_frame h s ≡ true) r rs on) found)
           (λ e. sym (spread (seen (nearest u rs)) (ltb (nearest u rs) last) (m.is_corner r (nearest u rs)) (list_any (λ s. m.is_corner s (nearest u rs)) rs)) ∙ e)
           (λ j low high e. sym (spread (seen j) (ltb j last) (m.is_corner r j) (list_any (λ s. m.is_corner s j) rs)) ∙ e)
 
       step : (o : Option ℕ) → ((u : ℕ) → Leads rs (seen_more m last r seen) u) → MatchOption o (IsFirst (seen_more m last r seen) after last t) (λ c. IsFirst (seen_more m last r seen) after last (min t c))
           → IsFirst (λ i. seen i || (ltb i last && (m.is_corner r i || list_any (λ s. m.is_corner s i) rs))) after last (fold min t (cons_option o (filter_map (λ s. corner_answered m h s after) rs)))
-      step None rest found = with_row t (rest t) found
-      step (Some c) rest found = with_row (min t c) (rest (min t c)) found
+      step None others found = with_row t (others t) found
+      step (Some c) others found = with_row (min t c) (others (min t c)) found
 
-  -- from the last instant on, it is the first test point
-  pub first_test_point : (rs : List Row) → AllPass (is_on_frame h) rs → IsFirst (is_test_point m rs last) after last (nearest last rs)
-  first_test_point rs on =
-      first_nearest rs (λ i. eqb i last) last on (record { after = before; within = omega arith; holds = eq-eqb last last refl; none = λ j low high. ne_eqb j last (λ e. omega arith) })
+-- the nearest of the last instant and the corners of the rows above is the next test point
+pub next_test_point : (l : Load) (last after next : ℕ) → StandOn l.frame l.above → last ≤ horizon → after < last
+    → next ≡ fold min last (filter_map (λ r. corner_answered l.bound l.frame r after) l.above) → IsFirst (is_tested l last) after last next
+next_test_point l last after next stands near before is =
+    let last_first : IsFirst (λ i. eqb i last) after last last = record { after = before; within = omega arith; holds = eq-eqb last last refl; none = λ j low high. ne_eqb j last (λ e. omega arith) } in
+    subst (IsFirst (is_tested l last) after last) (sym is) (first_nearest l.bound l.frame last after stands.frame near before l.above (λ i. eqb i last) last stands.on last_first)

@@ -13,7 +13,7 @@ use Rattle.bounds.specs.Laws.{Laws}
 use Rattle.bounds.specs.Meaning.{Meaning}
 use Rattle.findings.specs.Demand.{load}
 use Rattle.verdicts.specs.Found.{Found}
-use Rattle.findings.specs.Findings.{finding, row_finding}
+use Rattle.findings.specs.Findings.{row_finding}
 use Rattle.findings.specs.Tables.{findings_below, findings_of, TableSays}
 use Rattle.findings.specs.Fitting.{StandOn}
 use Rattle.findings.proofs.Walk.{finding_says}
@@ -25,20 +25,20 @@ module _ (m : Meaning) (h : ℕ) where
   length_findings_below above (r ∷ rows) = ap suc (length_findings_below (above ++ r ∷ []) rows)
 
   -- the finding at a place is that of the row there, below the rows before it
-  finding_below_at : (above rows : List Row) (i : ℕ) (d : Found) (r : Row) → i < length rows → get_or (findings_below m h above rows) i d ≡ row_finding m h (get_or rows i r) (above ++ take i rows)
+  pub finding_below_at : (above rows : List Row) (i : ℕ) (d : Found) (r : Row) → i < length rows → get_or (findings_below m h above rows) i d ≡ row_finding m h (get_or rows i r) (above ++ take i rows)
   finding_below_at above [] i d r within = absurd (omega arith)
   finding_below_at above (s ∷ rows) zero d r within = ap (row_finding m h s) (sym (append-nil above))
   finding_below_at above (s ∷ rows) (suc i) d r within =
       finding_below_at (above ++ s ∷ []) rows i d r (omega arith) ∙ ap (row_finding m h (get_or rows i r)) (append_assoc above (s ∷ []) (take i rows))
 
--- a finding counted for the row at a place is the one there among the findings from some place on
-pub counted_at : (m : Meaning) (h : ℕ) (rows : List Row) (from i : ℕ) (r : Row) (f : Found) (last : ℕ) → from ≤ i → i < length rows → r ≡ get_or rows i r → last ≡ window r
-    → f ≡ finding (load m h r.work (take (i - 0) rows)) last → f ≡ get_or (drop from (findings_of m h rows)) (i - from) f
-counted_at m h rows from i r f last late within read at-window found =
-    let whole : i - 0 ≡ i = omega arith in
+-- the finding of the row at a place, below the rows before it, is the one there among the findings from some place on
+pub finding_at : (m : Meaning) (h : ℕ) (rows : List Row) (from i : ℕ) (r : Row) (f : Found) → from ≤ i → i < length rows → r ≡ get_or rows i r
+    → f ≡ row_finding m h r (take (i - 0) rows) → f ≡ get_or (drop from (findings_of m h rows)) (i - from) f
+finding_at m h rows from i r f late within here answered =
+    let all : i - 0 ≡ i = omega arith in
     let place : from + (i - from) ≡ i = omega arith in
-    found ∙ ap₂ (λ n l. finding (load m h r.work (take n rows)) l) whole at-window ∙ ap (λ s. row_finding m h s (take i rows)) read
-    ∙ sym (finding_below_at m h [] rows i f r within) ∙ ap (λ n. get_or (findings_of m h rows) n f) (sym place) ∙ sym (get_or-drop from (findings_of m h rows) (i - from) f)
+    answered ∙ ap₂ (λ n s. row_finding m h s (take n rows)) all here ∙ sym (finding_below_at m h [] rows i f r within)
+    ∙ ap (λ n. get_or (findings_of m h rows) n f) (sym place) ∙ sym (get_or-drop from (findings_of m h rows) (i - from) f)
 
 -- of every row of a table that stands on a frame the finding says what a finding says
 pub table_says : (m : Meaning) (h : ℕ) (rows : List Row) → Laws m → StandOn h rows → TableSays m h rows
@@ -50,15 +50,16 @@ table_says m h rows laws stands xs ys r split =
 -- new elements put into a list from a place on, one after another
 module _ {X : Type 0} (old new : List X) (from : ℕ) where
   -- then one more
-  pub put_more : (i : ℕ) (x : X) → from ≤ i → i < length old → i - from < length new → x ≡ get_or new (i - from) x → set (paste old from new (i - from)) i x ≡ paste old from new (i + 1 - from)
-  put_more i x late within left read =
+  pub put_more : (now : List X) (i : ℕ) (x : X) → now ≡ paste old from new (i - from) → from ≤ i → i < length old → i - from < length new → x ≡ get_or new (i - from) x
+      → set now i x ≡ paste old from new (i + 1 - from)
+  put_more now i x put late within left next =
       let place : i ≡ from + (i - from) = omega arith in
-      let next : i - from + 1 ≡ i + 1 - from = omega arith in
-      ap₂ (set (paste old from new (i - from))) place read ∙ paste_more old from new (i - from) x (omega arith) left ∙ ap (paste old from new) next
+      let count : i - from + 1 ≡ i + 1 - from = omega arith in
+      ap (λ l. set l i x) put ∙ ap₂ (set (paste old from new (i - from))) place next ∙ paste_more old from new (i - from) x (omega arith) left ∙ ap (paste old from new) count
 
   -- at last all are
-  pub put_all : (i : ℕ) → i - from ≡ length new → paste old from new (i - from) ≡ written old from new
-  put_all i all = ap (paste old from new) all ∙ paste_all old from new (length new) refl
+  pub put_all : (now : List X) (i : ℕ) → now ≡ paste old from new (i - from) → i - from ≡ length new → now ≡ written old from new
+  put_all now i put all = put ∙ ap (paste old from new) all ∙ paste_all old from new (length new) refl
 
 -- a place that is written after those before it leaves the places outside as they were
 pub stays_more : {X : Type 0} (old new : List X) (from i : ℕ) (x : X) → from ≤ i → StaysOutside from i old new → StaysOutside from (i + 1) old (set new i x)

@@ -3,30 +3,25 @@ ghost use Rattle.std.specs.Prelude.{◌≡◌, ◌+◌, IfOk, OnOk};
 ghost use Rattle.std.specs.Option.{option_map};
 ghost use Rattle.rows.specs.Answers.{answer, checked};
 ghost use Rattle.bounds.specs.Supplied.{exact_steps};
-ghost use Rattle.findings.specs.Asking.{checks, most_above, standing};
+ghost use Rattle.findings.specs.Asking.{most_above, question_checks};
 ghost use Rattle.verdicts.specs.Found.{tells};
 ghost use Rattle.findings.specs.Findings.{row_finding, RowSays};
 ghost use Rattle.findings.specs.Exact.{response, Responds};
 ghost use Rattle.findings.specs.Fitting.{Fit};
 
+use crate::frames::check_rows;
 use crate::loads::Load;
-use crate::verdicts::Finding;
 use bounds::{Bound, ExactSteps};
 use rows::{Fault, MOST_ROWS, Refusal, Row, is_frame};
+use verdicts::Finding;
 
 // One row of a table less: at most so many stand above another.
 const MOST_ABOVE: usize = MOST_ROWS - 1;
 
-// How many rows from the top stand on the frame.
-pub(crate) fn standing(frame: u32, rows: &[Row]) -> usize
-    ensures { result ≡ standing frame rows.now }
-{
-    rows.iter().take_while(|row| row.stands_on(frame)).count()
-}
-
 // What is checked of a question before anything is counted.
-fn check(frame: u32, row: &Row, above: &[Row]) -> Result<(), Fault>
-    ensures checked { answer (λ u. u) result ≡ checked (checks frame row.now above.now) tt }
+fn check_question(frame: u32, row: &Row, above: &[Row]) -> Result<(), Fault>
+    ensures answered { answer (λ u. u) result
+        ≡ checked (question_checks frame row.now above.now) tt }
     ensures fit { OnOk result (Fit most_above frame above.now) }
 {
     if !is_frame(frame) {
@@ -35,36 +30,43 @@ fn check(frame: u32, row: &Row, above: &[Row]) -> Result<(), Fault>
     if above.len() > MOST_ABOVE {
         return Err(Refusal::FullTable.at(0));
     }
-    let on = standing(frame, above);
-    if on < above.len() {
-        return Err(Refusal::OffFrame.at(on as u32 + 1));
-    }
+    check_rows(frame, above)?;
     if !row.stands_on(frame) {
         return Err(Refusal::OffFrame.at(above.len() as u32 + 1));
     }
     Ok(())
 }
 
-/// The finding about a row below others, by a bound.
+/// The finding about a row below others, by a bound: its first rest in ticks, at most its window,
+/// and the points tested (docs/RULES.md, Findings).
+///
+/// Refused with 1, bad frame, at 0 for a frame of 0 or above the horizon; 9, full table, at 0 with
+/// more than 31 rows above; 8, off frame, at the rank of the first row whose period does not divide
+/// the frame, where the rows above have the ranks from 1 on and the row asked about the next one.
 pub fn find<B: Bound>(bound: &B, frame: u32, row: &Row, above: &[Row]) -> Result<Finding, Fault>
-    ensures found { answer tells result
-        ≡ checked (checks frame row.now above.now)
+    ensures answered { answer tells result
+        ≡ checked (question_checks frame row.now above.now)
         (row_finding (B.meaning bound.now) frame row.now above.now) }
-    ensures says { IfOk result (λ f. RowSays (B.meaning bound.now) frame row.now above.now (tells f)) }
+    ensures says { IfOk result
+        (λ f. RowSays (B.meaning bound.now) frame row.now above.now (tells f)) }
 {
-    check(frame, row, above)?;
+    check_question(frame, row, above)?;
     Ok(Load::new(bound, frame, row.work, above).search(row.window()))
 }
 
-/// The response time of a row below others, in exact steps: none where it misses its deadline.
+/// The response time of a row below others in ticks from its release, in exact steps: none where it
+/// misses its deadline (docs/RULES.md, Rests). It is the same on each frame that the rows stand on.
+///
+/// Refused as `find` is: 1, bad frame, at 0; 9, full table, at 0; 8, off frame, at the smallest rank
+/// that is off the frame.
 pub fn response_time(frame: u32, row: &Row, above: &[Row]) -> Result<Option<u64>, Fault>
-    ensures responds { answer (λ o. o) result
-        ≡ checked (checks frame row.now above.now) (response row.now above.now) }
+    ensures answered { answer (λ o. o) result
+        ≡ checked (question_checks frame row.now above.now) (response row.now above.now) }
     ensures first { IfOk result (λ o. o ≡ option_map (λ t. t + row.now.jitter)
         (row_finding exact_steps frame row.now above.now).rest) }
     ensures fixed { IfOk result (λ o. Responds row.now above.now o) }
 {
-    check(frame, row, above)?;
+    check_question(frame, row, above)?;
     let finding = Load::new(&ExactSteps, frame, row.work, above).search(row.window());
     Ok(finding.response_bound(row))
 }

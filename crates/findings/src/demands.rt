@@ -1,12 +1,14 @@
 // The demand of a load at an instant, and the next instant to test.
-ghost use Rattle.std.specs.Prelude.{◌≡◌, ◌^◌, ◌<◌, ◌≤◌};
+ghost use Rattle.std.specs.Prelude.{◌≡◌, ◌<◌, ◌≤◌, fold, min};
+ghost use Rattle.std.specs.List.{filter_map};
 ghost use Rattle.rows.specs.Times.{horizon};
+ghost use Rattle.bounds.specs.Answering.{corner_answered};
 ghost use Rattle.bounds.specs.Instants.{IsFirst};
 ghost use Rattle.findings.specs.Asking.{most_above};
-ghost use Rattle.findings.specs.Demand.{load, rests};
+ghost use Rattle.findings.specs.Demand.{load, above_demand, is_rest};
 ghost use Rattle.findings.specs.Findings.{is_tested};
 ghost use Rattle.findings.specs.Fitting.{Fit};
-ghost use Rattle.findings.specs.Loads.{amounts_answered, load_of, nearest_answered};
+ghost use Rattle.findings.specs.Loads.{load_of};
 
 use crate::loads::Load;
 use bounds::Bound;
@@ -26,10 +28,10 @@ impl<'a, B: Bound> Load<'a, B> {
         }
     }
 
-    // The sum of what the bound answers about the rows above, in parts.
+    // What the rows above can demand up to the instant, in parts.
     fn amounts(&self, at: u32) -> u64
-        requires { amounts_answered (load_of self.now) at < 2 ^ 64 }
-        ensures { result ≡ amounts_answered (load_of self.now) at }
+        requires { at ≤ horizon }
+        ensures { result ≡ above_demand (load_of self.now) at }
     {
         self.above
             .iter()
@@ -37,9 +39,11 @@ impl<'a, B: Bound> Load<'a, B> {
             .sum()
     }
 
-    // The least of `last` and the next corners that the bound answers about the rows above.
+    // The least of an instant and the next corners of the rows above.
     fn nearest(&self, after: u32, last: u32) -> u32
-        ensures { result ≡ nearest_answered (load_of self.now) after last }
+        ensures { result ≡ fold min last (filter_map
+            (λ r. corner_answered (B.meaning self.now.bound.now) self.now.frame r after)
+            self.now.above.now) }
     {
         self.above
             .iter()
@@ -48,9 +52,9 @@ impl<'a, B: Bound> Load<'a, B> {
     }
 
     // Whether all that is demanded up to the instant is served by it.
-    pub(crate) fn rests(&self, at: u32) -> bool
+    pub(crate) fn is_rest(&self, at: u32) -> bool
         requires { at ≤ horizon }
-        ensures { result ≡ rests (load_of self.now) at }
+        ensures { result ≡ is_rest (load_of self.now) at }
     {
         let demand = u64::from(self.frame) * u64::from(self.own) + self.amounts(at);
         demand <= u64::from(self.frame) * u64::from(at)

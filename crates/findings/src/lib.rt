@@ -1,12 +1,12 @@
-// The findings of rows: the demand by a bound, and the search for the first rest.
+//! The findings of rows: the demand by a bound, and the search for the first rest.
 #![tactic(auto)]
 
 mod asking;
 mod demands;
+mod frames;
 mod loads;
 mod recounting;
 mod searching;
-mod verdicts;
 
 pub use asking::{find, response_time};
 pub use recounting::{check_size, recount};

@@ -8,15 +8,18 @@ ghost use Rattle.verdicts.specs.Found.{tells};
 ghost use Rattle.findings.specs.Tables.{findings_of, TableSays};
 ghost use Rattle.findings.specs.Fitting.{Fit, HasPlaces};
 
-use crate::asking::standing;
+use crate::frames::check_rows;
 use crate::loads::Load;
-use crate::verdicts::Finding;
 use bounds::Bound;
 use rows::{Fault, MOST_ROWS, Refusal, Row, is_frame};
+use verdicts::Finding;
 
 /// Whether a table of so many rows on the frame can be counted into a list of so many places.
+///
+/// Refused, each at 0, with 1, bad frame, for a frame of 0 or above the horizon; 9, full table, for
+/// more than 32 rows; 12, short list, for fewer places than rows (docs/REFUSALS.md).
 pub fn check_size(frame: u32, rows: usize, places: usize) -> Result<(), Fault>
-    ensures checked { answer (λ u. u) result ≡ checked (size_checks frame rows places) tt }
+    ensures answered { answer (λ u. u) result ≡ checked (size_checks frame rows places) tt }
     ensures sized { OnOk result (HasPlaces frame rows places) }
 {
     if !is_frame(frame) {
@@ -33,16 +36,12 @@ pub fn check_size(frame: u32, rows: usize, places: usize) -> Result<(), Fault>
 
 // What is checked of rows before they are counted into a list of so many places.
 fn check_table(frame: u32, rows: &[Row], places: usize) -> Result<(), Fault>
-    ensures checked { answer (λ u. u) result ≡ checked (table_checks frame rows.now places) tt }
+    ensures answered { answer (λ u. u) result ≡ checked (table_checks frame rows.now places) tt }
     ensures fit { OnOk result (Fit most_rows frame rows.now) }
     ensures room { OnOk result (length rows.now ≤ places) }
 {
     check_size(frame, rows.len(), places)?;
-    let on = standing(frame, rows);
-    if on < rows.len() {
-        return Err(Refusal::OffFrame.at(on as u32 + 1));
-    }
-    Ok(())
+    check_rows(frame, rows)
 }
 
 // Puts the findings of the rows from a place on into the list, each at its row's place.
@@ -61,7 +60,11 @@ fn fill<B: Bound>(bound: &B, frame: u32, rows: &[Row], from: usize, list: &mut [
 }
 
 /// The findings of the rows of a table, each below the rows before it, put into the list in rank
-/// order. The first `from` places stay, and so do those past the last row.
+/// order (docs/RULES.md, Findings). The first `from` places stay, and those past the last row.
+///
+/// Refused as `check_size` is, with 1, bad frame, 9, full table, and 12, short list, at 0; then with
+/// 8, off frame, at the smallest rank that is off the frame. A refused call leaves the list as it
+/// was.
 pub fn recount<B: Bound>(
     bound: &B,
     frame: u32,
@@ -69,7 +72,8 @@ pub fn recount<B: Bound>(
     from: usize,
     list: &mut [Finding],
 ) -> Result<(), Fault>
-    ensures answered { answer (λ u. u) result ≡ checked (table_checks frame rows.now (length list.old)) tt }
+    ensures answered { answer (λ u. u) result
+        ≡ checked (table_checks frame rows.now (length list.old)) tt }
     ensures filled { MatchResult result (λ _. map tells list.new
         ≡ written (map tells list.old) from
         (drop from (findings_of (B.meaning bound.now) frame rows.now)))

@@ -1,3 +1,2 @@
-pub mod Graver
-pub mod Judged
-pub mod Passing
+pub mod Making
+pub mod Ordered

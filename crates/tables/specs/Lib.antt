@@ -1,2 +1,1 @@
 pub mod Surveys
-pub mod Judgement

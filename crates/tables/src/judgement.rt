@@ -1,40 +1,91 @@
-// The numbers of a whole table made rows, or refused.
-ghost use Rattle.std.specs.Prelude.{◌≡◌, ◌≤◌, map, length, take, OnOk};
-ghost use Rattle.rows.specs.Answers.{answer, refuses};
-ghost use Rattle.rows.specs.Judging.{plain};
+// The numbers of a whole table checked, and made rows.
+ghost use Rattle.std.specs.Prelude.{◌≡◌, ◌+◌, ◌<◌, ◌≤◌, map, length, slice_range, position, IfSome};
+ghost use Rattle.std.specs.Option.{option_map};
+ghost use Rattle.rows.specs.Answers.{answer, gives, refuses_at, checked, Passes};
 ghost use Rattle.rows.specs.Refusals.{number};
+ghost use Rattle.rows.specs.Judging.{
+  plain,
+  row_flaws,
+  rows_of,
+  table_flaw_checks,
+  is_idle,
+  has_no_window,
+  has_late_deadline,
+  has_long_period,
+};
 ghost use Rattle.rows.specs.Times.{most_rows};
-ghost use Rattle.tables.specs.Judgement.{graver, judged};
 
-use rows::{Fault, Numbers, Row};
+use rows::{Fault, MOST_ROWS, Numbers, Refusal, Row};
 
-// The graver of what is told so far and a fault met later: the one with the smaller number, or the
-// earlier one.
-fn graver(so_far: Result<(), Fault>, fault: Fault) -> Fault
-    ensures { refuses (number result.refusal) result.at
-        ≡ graver {B = Unit {0}} (answer (λ u. u) so_far)
-        (refuses (number fault.refusal) fault.at) }
+// Refuses a table at the rank of a place of it, where there is one.
+fn refuse_at(refusal: Refusal, place: Option<usize>) -> Result<(), Fault>
+    requires { IfSome place (λ i. i < most_rows) }
+    ensures { answer (λ u. u) result
+        ≡ refuses_at (number refusal) (option_map (λ i. i + 1) place) (gives tt) }
 {
-    match so_far {
-        Err(first) if first.refusal.number() <= fault.refusal.number() => first,
-        _ => fault,
+    match place {
+        Some(i) => Err(refusal.at(i as u32 + 1)),
+        None => Ok(()),
     }
 }
 
-// Makes the rows of the numbers of a table, in their order. A refusal is the one with the smallest
-// number that any place gives, and tells the smallest rank that gives it.
-pub(crate) fn judge_all(frame: u32, table: &[Numbers], rows: &mut [Row]) -> Result<(), Fault>
-    requires few { length table.now ≤ most_rows }
-    requires room { length table.now ≤ length rows.old }
-    ensures judged { answer (λ u. u) result ≡ judged frame table.now }
-    ensures rows { OnOk result (map plain (take (length table.now) rows.new) ≡ table.now) }
+// The first place of a table that asks for no work.
+fn first_idle(table: &[Numbers]) -> Option<usize>
+    ensures { result ≡ position is_idle table.now }
 {
-    let mut verdict = Ok(());
+    table.iter().position(Numbers::is_idle)
+}
+
+// The first place that leaves no window.
+fn first_without_window(table: &[Numbers]) -> Option<usize>
+    ensures { result ≡ position has_no_window table.now }
+{
+    table.iter().position(Numbers::has_no_window)
+}
+
+// The first place whose deadline is late.
+fn first_late(table: &[Numbers]) -> Option<usize>
+    ensures { result ≡ position has_late_deadline table.now }
+{
+    table.iter().position(Numbers::has_late_deadline)
+}
+
+// The first place whose period is long.
+fn first_long(table: &[Numbers]) -> Option<usize>
+    ensures { result ≡ position has_long_period table.now }
+{
+    table.iter().position(Numbers::has_long_period)
+}
+
+// What is checked of the numbers of a table before they are rows: each flaw at every rank before
+// the next, and the smallest rank that has it is told.
+pub(crate) fn check_numbers(table: &[Numbers]) -> Result<(), Fault>
+    requires { length table.now ≤ most_rows }
+    ensures { answer (λ u. u) result ≡ checked (table_flaw_checks row_flaws table.now) tt }
+{
+    refuse_at(Refusal::IdleRow, first_idle(table))?;
+    refuse_at(Refusal::NoWindow, first_without_window(table))?;
+    refuse_at(Refusal::LateDeadline, first_late(table))?;
+    refuse_at(Refusal::LongPeriod, first_long(table))
+}
+
+// The rows of the numbers of a table that came through its checks, in their order from the first
+// place on. No such numbers are refused, so the position that a refusal would tell is not needed.
+pub(crate) fn make_rows(table: &[Numbers]) -> [Row; MOST_ROWS]
+    requires few { length table.now ≤ most_rows }
+    requires passes { Passes (table_flaw_checks row_flaws table.now) }
+    ensures made { slice_range result 0 (length table.now) ≡ rows_of table.now }
+    ensures numbers { map plain (rows_of table.now) ≡ table.now }
+{
+    let unused = Row {
+        work: 1,
+        deadline: 1,
+        period: 1,
+        jitter: 0,
+    };
+    let mut rows = [unused; MOST_ROWS];
     for (i, numbers) in table.iter().enumerate() {
-        match numbers.judge_on(frame, i as u32 + 1) {
-            Ok(row) => rows[i] = row,
-            Err(fault) => verdict = Err(graver(verdict, fault)),
-        }
+        rows[i] = numbers.judge(0).unwrap();
     }
-    verdict
+    rows
 }

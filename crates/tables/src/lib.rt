@@ -1,4 +1,4 @@
-// The survey of a whole table: every number judged, then every row's finding.
+//! The survey of a whole table: its numbers checked and made rows, then every row's finding.
 #![tactic(auto)]
 
 mod judgement;

@@ -7,13 +7,20 @@ ghost use Rattle.verdicts.specs.Found.{tells};
 ghost use Rattle.findings.specs.Tables.{findings_of, TableSays};
 ghost use Rattle.tables.specs.Surveys.{survey_checks};
 
-use crate::judgement::judge_all;
+use crate::judgement::{check_numbers, make_rows};
 use bounds::Bound;
-use findings::{Finding, check_size, recount};
-use rows::{Fault, MOST_ROWS, Numbers, Row};
+use findings::{check_size, recount};
+use rows::{Fault, Numbers};
+use verdicts::Finding;
 
-/// Judges every place of a table and puts the findings of its rows into the list, in rank order;
-/// the places past the last row stay. Answers how many there are. A refusal leaves the list.
+/// The survey of a table (docs/RULES.md, Surveys): judges every place and puts the findings of the
+/// rows into the list, in rank order; the places past the last row stay. Answers how many rows
+/// there are.
+///
+/// Refused as `findings::check_size` is, with 1, bad frame, 9, full table, and 12, short list, at
+/// 0; then with 4, idle row, 5, no window, 6, late deadline, 7, long period, and 8, off frame, at
+/// the smallest rank that is so (docs/REFUSALS.md). A refused call leaves the list as it was.
+#[tactic(auto, using(crate::proofs::Ordered::numbers_refused, crate::proofs::Ordered::rows_refused, crate::proofs::Ordered::rows_counted))]
 pub fn survey<B: Bound>(
     bound: &B,
     frame: u32,
@@ -31,14 +38,8 @@ pub fn survey<B: Bound>(
     ensures says { OnOk result (TableSays (B.meaning bound.now) frame (rows_of table.now)) }
 {
     check_size(frame, table.len(), list.len())?;
-    let unused = Row {
-        work: 1,
-        deadline: 1,
-        period: 1,
-        jitter: 0,
-    };
-    let mut rows = [unused; MOST_ROWS];
-    judge_all(frame, table, &mut rows)?;
+    check_numbers(table)?;
+    let rows = make_rows(table);
     recount(bound, frame, &rows[0..table.len()], 0, list)?;
     Ok(table.len())
 }

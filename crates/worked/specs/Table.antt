@@ -12,13 +12,40 @@ use Rattle.brackets.specs.Bracketing.{slow_rest}
 
 -- the rows, by work, deadline, period and jitter
 abbrev pub row_a : Row
-row_a = record { work = 1; deadline = 4; period = 4; jitter = 0; busy = lit≤ tt; roomy = lit≤ tt; timely = lit≤ tt; near = lit≤ tt }
+row_a = record {
+  work = 1;
+  deadline = 4;
+  period = 4;
+  jitter = 0;
+  busy = lit≤ tt;
+  roomy = lit≤ tt;
+  timely = lit≤ tt;
+  near = lit≤ tt;
+}
 
 abbrev pub row_b : Row
-row_b = record { work = 2; deadline = 6; period = 6; jitter = 1; busy = lit≤ tt; roomy = lit≤ tt; timely = lit≤ tt; near = lit≤ tt }
+row_b = record {
+  work = 2;
+  deadline = 6;
+  period = 6;
+  jitter = 1;
+  busy = lit≤ tt;
+  roomy = lit≤ tt;
+  timely = lit≤ tt;
+  near = lit≤ tt;
+}
 
 abbrev pub row_e : Row
-row_e = record { work = 3; deadline = 12; period = 12; jitter = 0; busy = lit≤ tt; roomy = lit≤ tt; timely = lit≤ tt; near = lit≤ tt }
+row_e = record {
+  work = 3;
+  deadline = 12;
+  period = 12;
+  jitter = 0;
+  busy = lit≤ tt;
+  roomy = lit≤ tt;
+  timely = lit≤ tt;
+  near = lit≤ tt;
+}
 
 -- the finding about a row below others on the frame of 12
 abbrev pub found : Meaning → Row → List Row → Found
@@ -41,8 +68,10 @@ pub record Worked : Type 0 where
   pub tail_2_e : found (linear_tail 2) row_e (row_a ∷ row_b ∷ []) ≡ misses 3
   pub tail_3_e : found (linear_tail 3) row_e (row_a ∷ row_b ∷ []) ≡ meets 11 4
   -- the whole table, in exact steps and by the tail of accuracy 3
-  pub table_exact : findings_of exact_steps 12 (row_a ∷ row_b ∷ row_e ∷ []) ≡ meets 1 1 ∷ meets 3 1 ∷ meets 10 4 ∷ []
-  pub table_tail_3 : findings_of (linear_tail 3) 12 (row_a ∷ row_b ∷ row_e ∷ []) ≡ meets 1 1 ∷ meets 3 1 ∷ meets 11 4 ∷ []
+  pub table_exact : findings_of exact_steps 12 (row_a ∷ row_b ∷ row_e ∷ [])
+      ≡ meets 1 1 ∷ meets 3 1 ∷ meets 10 4 ∷ []
+  pub table_tail_3 : findings_of (linear_tail 3) 12 (row_a ∷ row_b ∷ row_e ∷ [])
+      ≡ meets 1 1 ∷ meets 3 1 ∷ meets 11 4 ∷ []
   -- in exact steps at speed 3/4
   pub slow_b : slow_rest 3 row_b (row_a ∷ []) ≡ Some 4
   pub slow_e : slow_rest 3 row_e (row_a ∷ row_b ∷ []) ≡ None

@@ -1,4 +1,4 @@
-// The worked table, surveyed in exact steps and by linear tails, counted both ways, and printed.
+//! The worked table, surveyed in exact steps and by linear tails, counted both ways, and printed.
 #![tactic(auto)]
 
 mod printing;

@@ -59,7 +59,8 @@ pub(crate) fn print_survey<B: Bound>(
     Ok(())
 }
 
-// Each row counted in exact steps and by a bound, side by side, with the gap between the first rests.
+// Each row counted in exact steps and by a bound, side by side, with the gap between the first
+// rests.
 pub(crate) fn print_both<B: Bound>(
     rt: &HostRuntime,
     title: &str,

@@ -1,31 +1,12 @@
-use Rattle.std.proofs.lemmas.Result.{err_from_is_err_and}
-use Rattle.rows.proofs.Checks.{refuses_any}
-use Rattle.findings.specs.Asking.{checks}
-use Rattle.brackets.proofs.Bracket.{brackets, fewer_above}
-use Rattle.brackets.proofs.Counted.{counted, exactly, between}
-use Rattle.brackets.proofs.Rearranged.{any_order}
+use Rattle.brackets.proofs.Bracket.{brackets}
+use Rattle.brackets.proofs.TwoCounts.{between}
 use Rattle.brackets.proofs.counting.count_both.Goals as goal
 
-pub returns-in_err-exact : goal.returns-in_err-exact
-returns-in_err-exact g c =
-    let err = err_from_is_err_and c.from_residual.result c.from_residual.ensures.1 in
-    record {
-      counted = rw (err.1, err.2) (refuses_any (checks c.args.frame c.args.row.now c.args.above.now) _ _ _ c.in_err-exact.ensures.found _);
-      exactly = rw err.1 tt;
-      between = rw err.1 tt;
-      brackets = brackets (g.met.B.Bound.lawful c.args.bound.now);
-      fewer = fewer_above (g.B.Bound.meaning c.args.bound.now);
-      order = any_order (g.B.Bound.meaning c.args.bound.now);
-    }
+pub returns-in_err-exact-clause-brackets : goal.returns-in_err-exact-clause-brackets
+returns-in_err-exact-clause-brackets g c = brackets (g.met.B.Bound.lawful c.args.bound.now)
 
-pub returns : goal.returns
-returns g c =
-    let found = c.in_ok-exact.ensures.found in
-    record {
-      counted = counted c.args.frame c.args.row.now c.args.above.now (g.B.Bound.meaning c.args.bound.now) _ found c.in_ok-bounded.ensures.found;
-      exactly = exactly c.args.frame c.args.row.now c.args.above.now _ found;
-      between = between c.args.frame c.args.row.now c.args.above.now (g.met.B.Bound.lawful c.args.bound.now) _ c.in_ok-bounded.ensures.found;
-      brackets = brackets (g.met.B.Bound.lawful c.args.bound.now);
-      fewer = fewer_above (g.B.Bound.meaning c.args.bound.now);
-      order = any_order (g.B.Bound.meaning c.args.bound.now);
-    }
+pub returns-clause-between : goal.returns-clause-between
+returns-clause-between g c = between c.args.frame c.args.row.now c.args.above.now (g.met.B.Bound.lawful c.args.bound.now) _ c.in_ok-bounded.ensures.answered
+
+pub returns-clause-brackets : goal.returns-clause-brackets
+returns-clause-brackets g c = brackets (g.met.B.Bound.lawful c.args.bound.now)

@@ -1,0 +1,34 @@
+-- What is answered to the two numbers of such a bound, and what a caller may know of it as a value.
+use Rattle.std.specs.Prelude.{ℕ, Bool, ◌&&◌, Ok, Err, Result, nat_le, if◌then◌else◌}
+use Rattle.rows.specs.Refusals.{number}
+use Rattle.rows.specs.Times.{horizon}
+use Rattle.bounds.specs.Meaning.{is_accuracy}
+use Rattle.batches.specs.declared.Batches.{Batches}
+use Rattle.batches.specs.declared.errors.BatchError.{BatchError}
+use Rattle.batches.specs.declared.errors.BatchError.TheVariants.{Refused, BadSize}
+use Rattle.batches.specs.Batching.{Parameters, parameters}
+
+-- the two numbers of a bound that is made
+abbrev pub parameters_of : Batches → Parameters
+parameters_of b = parameters b.accuracy b.size
+
+-- a batch has at least one job, and at most as many as the horizon has ticks
+abbrev pub is_size : ℕ → Bool
+is_size g = nat_le 1 g && nat_le g horizon
+
+-- what making the bound answers: the bound of two numbers; a refusal by its number and the position that it tells;
+-- or the size of a batch that none can have
+pub data Made : Type 0 where
+  makes : Parameters → Made
+  refuses : ℕ → ℕ → Made
+  denies : ℕ → Made
+
+-- what a result answers
+abbrev pub made_by : Result Batches BatchError → Made
+made_by (Ok b) = makes (parameters_of b)
+made_by (Err (Refused f)) = refuses (number f.refusal) f.at
+made_by (Err (BadSize g)) = denies g
+
+-- what is answered to an accuracy and a size of a batch: the accuracy is checked first
+abbrev pub made : ℕ → ℕ → Made
+made k g = if is_accuracy k then (if is_size g then makes (parameters k g) else denies g) else refuses 3 0
