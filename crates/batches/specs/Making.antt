@@ -18,17 +18,17 @@ is_size g = nat_le 1 g && nat_le g horizon
 
 -- what making the bound answers: the bound of two numbers; a refusal by its number and the position that it tells;
 -- or the size of a batch that none can have
-pub data Made : Type 0 where
-  makes : Parameters → Made
-  refuses : ℕ → ℕ → Made
-  denies : ℕ → Made
+pub data Outcome : Type 0 where
+  makes : Parameters → Outcome
+  refuses : ℕ → ℕ → Outcome
+  denies : ℕ → Outcome
 
 -- what a result answers
-abbrev pub made_by : Result Batches BatchError → Made
-made_by (Ok b) = makes (parameters_of b)
-made_by (Err (Refused f)) = refuses (number f.refusal) f.at
-made_by (Err (BadSize g)) = denies g
+abbrev pub outcome_of : Result Batches BatchError → Outcome
+outcome_of (Ok b) = makes (parameters_of b)
+outcome_of (Err (Refused f)) = refuses (number f.refusal) f.at
+outcome_of (Err (BadSize g)) = denies g
 
 -- what is answered to an accuracy and a size of a batch: the accuracy is checked first
-abbrev pub made : ℕ → ℕ → Made
-made k g = if is_accuracy k then (if is_size g then makes (parameters k g) else denies g) else refuses 3 0
+abbrev pub outcome_for : ℕ → ℕ → Outcome
+outcome_for k g = if is_accuracy k then (if is_size g then makes (parameters k g) else denies g) else refuses 3 0

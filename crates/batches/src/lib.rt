@@ -36,7 +36,7 @@ fn job_count(row: &Row, at: u32) -> u64
 
 impl Batches {
     ghost use Rattle.batches.specs.Batching.{batch_count};
-    ghost use Rattle.batches.specs.Making.{made, made_by, parameters_of};
+    ghost use Rattle.batches.specs.Making.{outcome_for, outcome_of, parameters_of};
 
     /// The bound of an accuracy from 1 to 64 and a batch size from 1 to the horizon, in jobs
     /// (docs/OWN_BOUND.md, The example).
@@ -44,7 +44,7 @@ impl Batches {
     /// Refused with 3, bad accuracy, at 0 for any other accuracy; then, for any other size, by the
     /// crate's own `BatchError::BadSize`.
     pub fn new(accuracy: u32, size: u32) -> Result<Batches, BatchError>
-        ensures { made_by result ≡ made accuracy size }
+        ensures { outcome_of result ≡ outcome_for accuracy size }
     {
         if accuracy == 0 || accuracy > FINEST {
             return Err(BatchError::Refused(Refusal::BadAccuracy.at(0)));

@@ -1,5 +1,5 @@
 -- The least instant of a kind, and how many there are.
-use Rattle.std.specs.Prelude.{◌≡◌, ℕ, zero, suc, ◌+◌, ◌<◌, ◌≤◌, Bool, true, false, Some, None, Option, if◌then◌else◌}
+use Rattle.std.specs.Prelude.{IsTrue, ◌≡◌, ℕ, zero, suc, ◌+◌, ◌<◌, ◌≤◌, Bool, false, Some, None, Option, if◌then◌else◌}
 
 -- the least of the n instants from s on at which p holds
 unfoldable pub least : (ℕ → Bool) → ℕ → ℕ → Option ℕ
@@ -15,9 +15,9 @@ count p (suc n) = count p n + (if p (suc n) then 1 else 0)
 pub record IsFirst (p : ℕ → Bool) (s e t : ℕ) : Type 0 where
   pub after : s < t
   pub within : t ≤ e
-  pub holds : p t ≡ true
+  pub holds : IsTrue (p t)
   pub none : (i : ℕ) → s < i → i < t → p i ≡ false
 
 -- once some instant after s and up to e has p, so have all from it to e
 abbrev pub OnceThenOn : (ℕ → Bool) → ℕ → ℕ → Type 0
-OnceThenOn p s e = (i j : ℕ) → s < i → i ≤ j → j ≤ e → p i ≡ true → p j ≡ true
+OnceThenOn p s e = (i j : ℕ) → s < i → i ≤ j → j ≤ e → IsTrue (p i) → IsTrue (p j)

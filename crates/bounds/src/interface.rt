@@ -9,12 +9,13 @@ use rows::{HORIZON, Row, is_frame};
 /// The greatest accuracy that a bound can have.
 pub const FINEST: u32 = 64;
 
-/// A bound on the demand of rows. Its meaning is fixed: every answer is the meaning's, each time.
+/// A bound on the demand of rows (docs/RULES.md, Bounds; docs/OWN_BOUND.md says how to bring one).
+/// Its meaning is fixed: every answer is the meaning's, each time.
 /// Where a bound has nothing to answer (see `asked`), its amount is 0 and there is no corner.
 pub trait Bound {
     ghost meaning: { Self → Meaning };
 
-    /// The most that the row can demand up to the instant, in parts of the frame.
+    /// The most that the row can demand up to the instant, in parts, frame parts to a unit of work.
     fn amount(&self, frame: u32, row: &Row, at: u32) -> u64
         ensures { result ≡ amount_answered (meaning self.now) frame row.now at };
 

@@ -8,7 +8,8 @@ use crate::interface::{Bound, FINEST, asked};
 use crate::releases::next_rise;
 use rows::{Fault, HORIZON, Refusal, Row};
 
-/// The linear tail of an accuracy from 1 to 64: the larger, the closer to the steps. `new` makes it.
+/// The linear tail of an accuracy from 1 to 64: the larger, the closer to the steps (docs/RULES.md,
+/// Bounds). `new` makes it.
 #[derive(Clone, Copy, PartialEq, Eq, Debug)]
 pub struct LinearTail {
     accuracy: u32,

@@ -4,7 +4,8 @@ use crate::interface::Bound;
 use crate::linear::LinearTail;
 use rows::Row;
 
-/// A bound that the toolkit supplies. By it a program counts with whichever bound its input names.
+/// A bound that the toolkit supplies, as a value: by it a program counts with whichever bound its
+/// input names (docs/FORMAT.md has the numbers by which a heading names one).
 #[derive(Clone, Copy, PartialEq, Eq, Debug)]
 pub enum Supplied {
     ExactSteps,

@@ -22,9 +22,9 @@ module _ (k k' : ℕ) (order : k ≤ k') (h : ℕ) (r : Row) (t : ℕ) where
 
   -- so its amount is nowhere larger
   finer_amount : h / r.period * r.period ≡ h → (linear_tail k').amount h r t ≤ (linear_tail k).amount h r t
-  finer_amount whole =
+  finer_amount divides =
       cond_both (is_before_tail k r t) (h * steps r t) (line h r t) (λ x. (linear_tail k').amount h r t ≤ x)
-      (λ before. rw (begins_later before) (omega arith)) (λ _. below_line k' h r t whole)
+      (λ before. rw (begins_later before) (omega arith)) (λ _. below_line k' h r t divides)
 
 -- and what rests by a tail rests by every more accurate one
 pub finer_tails : FinerIsNoLater

@@ -1,5 +1,5 @@
 // The search for the first rest: one text for every bound.
-ghost use Rattle.std.specs.Prelude.{◌≡◌, ◌<◌, ◌≤◌, true};
+ghost use Rattle.std.specs.Prelude.{IsTrue, ◌≡◌, ◌<◌, ◌≤◌};
 ghost use Rattle.rows.specs.Times.{horizon};
 ghost use Rattle.findings.specs.Demand.{is_rest};
 ghost use Rattle.verdicts.specs.Found.{tells};
@@ -17,7 +17,7 @@ impl<'a, B: Bound> Load<'a, B> {
     fn bisect(&self, low: u32, high: u32) -> u32
         requires before { low < high }
         requires near { high ≤ horizon }
-        requires served { is_rest (load_of self.now) high ≡ true }
+        requires served { IsTrue (is_rest (load_of self.now) high) }
         requires on { OnceThenOn (is_rest (load_of self.now)) low high }
         ensures { IsFirst (is_rest (load_of self.now)) low high result }
     {

@@ -5,13 +5,12 @@ use Rattle.std.proofs.Math.Bridge.{le_prop}
 use Rattle.rows.specs.Times.{horizon}
 use Rattle.bounds.specs.declared.supplied.Supplied.{Supplied}
 use Rattle.bounds.specs.declared.supplied.Supplied.TheVariants.{ExactSteps as exact, LinearTail as tail}
-use Rattle.bounds.specs.Values.{accuracy_of}
 use Rattle.bounds.proofs.SameTail.{same_tail}
 use Rattle.leaves.specs.declared.entries.Heading.{Heading}
-use Rattle.leaves.specs.Headings.{heading_plain, told_bound}
+use Rattle.leaves.specs.Headings.{heading_plain, bound_numbers}
 
 -- a bound is known by what a heading tells of it
-same_bound : (a b : Supplied) → (told_bound a).0 ≡ (told_bound b).0 → (told_bound a).1 ≡ (told_bound b).1 → a ≡ b
+same_bound : (a b : Supplied) → (bound_numbers a).0 ≡ (bound_numbers b).0 → (bound_numbers a).1 ≡ (bound_numbers b).1 → a ≡ b
 same_bound exact exact number accuracy = refl
 same_bound exact (tail t) number accuracy = absurd (omega arith)
 same_bound (tail s) exact number accuracy = absurd (omega arith)

@@ -10,13 +10,13 @@ use Rattle.leaves.specs.declared.entries.Heading.{Heading}
 use Rattle.leaves.specs.declared.entries.HeadingNumbers.{HeadingNumbers}
 
 -- a bound as a heading tells it: its number, and its accuracy, which exact steps do not tell
-abbrev pub told_bound : Supplied → ℕ × ℕ
-told_bound exact = (0, 0)
-told_bound (tail t) = (1, accuracy_of t)
+abbrev pub bound_numbers : Supplied → ℕ × ℕ
+bound_numbers exact = (0, 0)
+bound_numbers (tail t) = (1, accuracy_of t)
 
 -- the numbers of a heading
 abbrev pub heading_plain : Heading → HeadingNumbers
-heading_plain h = record { frame = h.frame; bound = (told_bound h.bound).0; accuracy = (told_bound h.bound).1 }
+heading_plain h = record { frame = h.frame; bound = (bound_numbers h.bound).0; accuracy = (bound_numbers h.bound).1 }
 
 -- the number of the last bound that a heading can name
 abbrev pub last_bound : ℕ

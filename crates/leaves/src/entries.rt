@@ -36,7 +36,7 @@ pub struct Heading {
     pub ghost near: { frame ≤ horizon },
 }
 
-/// An entry of a leaf: the heading, a row, the finding about a row, or the end with the number of
+/// An entry of a leaf (docs/FORMAT.md, Entries): the heading, a row, the finding about a row, or the end with the number of
 /// entries before it.
 #[derive(Clone, Copy, PartialEq, Eq, Debug)]
 pub enum Entry {

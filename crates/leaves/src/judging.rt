@@ -1,7 +1,7 @@
 // Which headings and findings can be filed.
 ghost use Rattle.std.specs.Prelude.{◌≡◌};
 ghost use Rattle.rows.specs.Answers.{answer, checked};
-ghost use Rattle.leaves.specs.Headings.{bound_checks, heading_checks, heading_plain, told_bound};
+ghost use Rattle.leaves.specs.Headings.{bound_checks, heading_checks, heading_plain, bound_numbers};
 ghost use Rattle.leaves.specs.Judging.{finding_checks};
 
 use crate::entries::{Heading, HeadingNumbers};
@@ -28,7 +28,7 @@ impl HeadingNumbers {
 
     // The bound that the second and the third number name together.
     fn named_bound(&self, at: u32) -> Result<Supplied, Fault>
-        ensures { answer told_bound result
+        ensures { answer bound_numbers result
             ≡ checked (bound_checks self.now at) (self.now.bound, self.now.accuracy) }
     {
         match (self.bound, self.accuracy) {

@@ -12,7 +12,7 @@ use Rattle.verdicts.specs.declared.verdicts.Verdict.TheVariants.{Meets, Misses}
 use Rattle.verdicts.specs.Found.{verdict_rest, tells}
 use Rattle.leaves.specs.declared.entries.Heading.{Heading}
 use Rattle.leaves.specs.Bytes.{four, number_at}
-use Rattle.leaves.specs.Headings.{heading_plain, told_bound}
+use Rattle.leaves.specs.Headings.{heading_plain, bound_numbers}
 use Rattle.leaves.specs.Judging.{is_in_range, IsFilable}
 use Rattle.leaves.specs.Entries.{heading_body, row_body, finding_body, heading_size, row_size, finding_size, end_size}
 use Rattle.leaves.proofs.SameHeading.{same_heading}
@@ -22,7 +22,7 @@ use Rattle.reading.specs.Checks.{heading_fields, row_fields, finding_fields}
 pub heading_again : (h : Heading) (xs : List ℕ) → heading_fields (heading_body (heading_plain h) ++ xs) ≡ heading_plain h
 heading_again h xs =
     let frame = from_be_bytes-to_be_bytes_4 h.frame (omega (arith, h.near)) in
-    λ i. record { frame = frame i; bound = (told_bound h.bound).0; accuracy = (told_bound h.bound).1 }
+    λ i. record { frame = frame i; bound = (bound_numbers h.bound).0; accuracy = (bound_numbers h.bound).1 }
 
 pub row_again : (r : Row) (xs : List ℕ) → row_fields (row_body (plain r) ++ xs) ≡ plain r
 row_again r xs =

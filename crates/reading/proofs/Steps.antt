@@ -17,7 +17,7 @@ use Rattle.leaves.specs.declared.entries.Heading.{Heading}
 use Rattle.leaves.specs.declared.entries.Entry.{Entry}
 use Rattle.leaves.specs.declared.entries.Entry.TheVariants.{Heading as heading, Row as row, Finding as finding, End as end}
 use Rattle.leaves.specs.Bytes.{four, number_at}
-use Rattle.leaves.specs.Headings.{heading_plain, heading_checks, told_bound}
+use Rattle.leaves.specs.Headings.{heading_plain, heading_checks, bound_numbers}
 use Rattle.leaves.specs.Judging.{is_bad_finding, finding_checks, IsFilable}
 use Rattle.leaves.specs.Entries.{entry_bytes, heading_body, row_body, finding_body, heading_size, row_size, finding_size, end_size}
 use Rattle.reading.specs.declared.phases.Phase.{Phase}
@@ -57,7 +57,7 @@ uncut size at body others enough = passes_on (ltb (length body) size) 13 (at + 1
 heading_passes : (h : Heading) (at : ℕ) → first_refusal (heading_checks (heading_plain h) at) ≡ gives tt
 heading_passes h at = passes_on (not (is_frame h.frame)) 1 at _ (not_from_true (is_frame h.frame) (and_from _ _ (le-leb 1 h.frame h.low) (le-leb h.frame horizon h.near))) ∙ named h.bound
   where
-    named : (b : Supplied) → first_refusal (heading_checks (record { frame = 1; bound = (told_bound b).0; accuracy = (told_bound b).1 }) at) ≡ gives tt
+    named : (b : Supplied) → first_refusal (heading_checks (record { frame = 1; bound = (bound_numbers b).0; accuracy = (bound_numbers b).1 }) at) ≡ gives tt
     named exact = refl
     named (tail t) = passes_on (not (is_accuracy t.accuracy)) 3 at _ (not_from_true _ (and_from _ _ (le-leb 1 t.accuracy t.low) (le-leb t.accuracy finest t.high)))
 

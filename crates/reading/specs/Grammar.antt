@@ -1,5 +1,5 @@
 -- Which entries may follow one another.
-use Rattle.std.specs.Prelude.{◌≡◌, ℕ, ◌+◌, ◌<◌, true, List, [], ◌∷◌}
+use Rattle.std.specs.Prelude.{IsTrue, ◌≡◌, ℕ, ◌+◌, ◌<◌, List, [], ◌∷◌}
 use Rattle.rows.specs.declared.tasks.Row.{Row}
 use Rattle.rows.specs.Counting.{is_on_frame}
 use Rattle.rows.specs.Times.{most_rows}
@@ -21,7 +21,7 @@ pub data Step : Phase → Entry → Phase → Type 0 where
   -- the heading opens the rows
   opens : {h : Heading} → Step Opening (heading h) (Rows h 0)
   -- a row on the frame comes after fewer than a full table
-  stands : {h : Heading} {n : ℕ} {r : Row} → n < most_rows → is_on_frame h.frame r ≡ true → Step (Rows h n) (row r) (Rows h (n + 1))
+  stands : {h : Heading} {n : ℕ} {r : Row} → n < most_rows → IsTrue (is_on_frame h.frame r) → Step (Rows h n) (row r) (Rows h (n + 1))
   -- a finding that can be filed comes after fewer findings than rows; the first one ends the rows
   finds : {p : Phase} {h : Heading} {n m : ℕ} {f : Finding} → TakesFindings p h n m → m < n → IsFilable f → Step p (finding f) (Findings h n (m + 1))
   -- the end comes after as many findings as rows, and tells how many entries came before it

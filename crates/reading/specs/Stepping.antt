@@ -1,5 +1,5 @@
 -- One step of a reader.
-use Rattle.std.specs.Prelude.{◌≡◌, ℕ, true, List, [], ◌++◌, Some, None, Option}
+use Rattle.std.specs.Prelude.{IsTrue, ◌≡◌, ℕ, List, [], ◌++◌, Some, None, Option}
 use Rattle.leaves.specs.declared.entries.Entry.{Entry}
 use Rattle.leaves.specs.Entries.{entry_bytes}
 use Rattle.reading.specs.declared.phases.Phase.{Phase}
@@ -23,4 +23,4 @@ pub record TakesEntry (old : Reading) (e : Entry) (new : Reading) : Type 0 where
 -- an entry is taken, or there is none: then the leaf is closed, no byte is left, and the reader stays
 abbrev pub Takes : Reading → Option Entry → Reading → Type 0
 Takes old (Some e) new = TakesEntry old e new
-Takes old None new = (is_closed old.phase ≡ true) × (old.left ≡ []) × (new ≡ old)
+Takes old None new = IsTrue (is_closed old.phase) × (old.left ≡ []) × (new ≡ old)

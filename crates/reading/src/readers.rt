@@ -24,7 +24,7 @@ impl<'a> Model for Reader<'a> {
 }
 
 impl<'a> Reader<'a> {
-    ghost use Rattle.std.specs.Prelude.{◌≡◌, IfOk, OnErr, MatchOption, true, []};
+    ghost use Rattle.std.specs.Prelude.{IsTrue, ◌≡◌, IfOk, IsTrue, OnErr, MatchOption, []};
     ghost use Rattle.rows.specs.Answers.{refusal, first_refusal};
     ghost use Rattle.reading.specs.Checks.{next_checks};
     ghost use Rattle.reading.specs.Phases.{is_closed, place_of};
@@ -82,7 +82,7 @@ impl<'a> Reader<'a> {
         ensures answered { refusal result
             ≡ first_refusal (next_checks self.now.phase (place_of self.now.phase) self.now.left) }
         ensures taken { IfOk result (λ o. MatchOption o
-            ((is_closed self.now.phase ≡ true) × (self.now.left ≡ []))
+            (IsTrue (is_closed self.now.phase) × (self.now.left ≡ []))
             (λ t. TakesEntry self.now t.entry (reading t.phase t.left.now))) }
     {
         let at = self.place();

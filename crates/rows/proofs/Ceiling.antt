@@ -10,8 +10,8 @@ use Rattle.rows.specs.Counting.{steps, CountsJobs}
 pub ceiling_is : (a b q : ℕ) → 0 < b → a ≤ q * b → q * b < a + b → ceiling a b ≡ q
 ceiling_is a b q some covers tight =
     let left : (a + (b - 1)) - q * b < b = omega arith in
-    let whole : a + (b - 1) ≡ q * b + ((a + (b - 1)) - q * b) = omega arith in
-    ap (λ n. n / b) whole ∙ div-mul-add q b _ left
+    let split : a + (b - 1) ≡ q * b + ((a + (b - 1)) - q * b) = omega arith in
+    ap (λ n. n / b) split ∙ div-mul-add q b _ left
 
 pub ceiling_covers : (a b : ℕ) → 0 < b → a ≤ ceiling a b * b
 ceiling_covers a b some = omega (arith, div-add-mod' (a + (b - 1)) b, mod_below (a + (b - 1)) b some)

@@ -1,6 +1,6 @@
 -- The first place of a list that passes a test.
-use Rattle.std.proofs.Common.{◌≡◌, ℕ, ◌+◌, ◌<◌, Bool, true, false, cond, not, ltb, List, [], ◌∷◌, map, length, Some, None, refl, ap, ap₂, ◌∙◌, position}
-use Rattle.std.specs.List.{prefix_len, position_or_len}
+use Rattle.std.proofs.Common.{◌≡◌, ◌+◌, Bool, cond, not, ltb, List, [], ◌∷◌, map, Some, None, refl, ap, ap₂, position}
+use Rattle.std.specs.List.{prefix_len}
 use Rattle.std.proofs.lemmas.List.{length-map}
 
 -- the front of a list that was made of another by a function

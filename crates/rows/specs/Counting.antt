@@ -1,5 +1,5 @@
 -- A row in time: where it stands, its window, and its demand counted exactly.
-use Rattle.std.specs.Prelude.{◌≡◌, ℕ, ◌+◌, ◌-◌, ◌*◌, ◌%◌, ◌<◌, ◌≤◌, Bool, true, false, ◌&&◌, ◌==◌, nat_le}
+use Rattle.std.specs.Prelude.{IsTrue, ◌≡◌, ℕ, ◌+◌, ◌-◌, ◌*◌, ◌%◌, ◌<◌, ◌≤◌, Bool, false, ◌&&◌, ◌==◌, nat_le}
 use Rattle.rows.specs.declared.tasks.Row.{Row}
 use Rattle.rows.specs.Times.{ceiling}
 
@@ -30,8 +30,8 @@ is_rise r t = nat_le 1 t && (t + r.jitter) % r.period == 0
 -- when the steps of a row rise, and by how much
 pub record StepsRise (r : Row) : Type 0 where
   -- the rises are the instants b × period − jitter, for every b from 1 on, and no others
-  pub multiple : (t : ℕ) → is_rise r t ≡ true → (b : ℕ) × (1 ≤ b) × (t + r.jitter ≡ b * r.period)
-  pub every : (t b : ℕ) → 1 ≤ b → t + r.jitter ≡ b * r.period → is_rise r t ≡ true
+  pub multiple : (t : ℕ) → IsTrue (is_rise r t) → (b : ℕ) × (1 ≤ b) × (t + r.jitter ≡ b * r.period)
+  pub every : (t b : ℕ) → 1 ≤ b → t + r.jitter ≡ b * r.period → IsTrue (is_rise r t)
   -- after a rise the steps have grown by the work of one job, and after any other instant from 1 on they are the same
-  pub up : (t : ℕ) → is_rise r t ≡ true → steps r (t + 1) ≡ steps r t + r.work
+  pub up : (t : ℕ) → IsTrue (is_rise r t) → steps r (t + 1) ≡ steps r t + r.work
   pub level : (t : ℕ) → 1 ≤ t → is_rise r t ≡ false → steps r (t + 1) ≡ steps r t

@@ -6,13 +6,13 @@ ghost use Rattle.rows.specs.Counting.{is_on_frame, window, steps, CountsJobs, St
 
 use crate::tasks::{Numbers, Row};
 
-/// The last instant that anything is asked about; no period and no frame is longer.
+/// The last instant that anything is asked about, in ticks (2^24); no period and no frame is longer.
 pub const HORIZON: u32 = 16_777_216;
 
 /// A table has at most this many rows.
 pub const MOST_ROWS: usize = 32;
 
-/// Whether a number is a frame: from 1 to the horizon.
+/// Whether a number is a frame: from 1 to the horizon (docs/RULES.md, Frame and parts).
 pub fn is_frame(frame: u32) -> bool
     ensures { result ≡ is_frame frame }
 {
@@ -32,7 +32,8 @@ impl Row {
         }
     }
 
-    /// The deadline less the jitter: the time left once the task is ready.
+    /// The deadline less the jitter, in ticks: the time left once the task is ready (docs/RULES.md,
+    /// Rows).
     pub fn window(&self) -> u32
         ensures { result ≡ window self.now }
     {
@@ -46,7 +47,9 @@ impl Row {
         frame % self.period == 0
     }
 
-    /// The exact steps at an instant: work × ceiling((at + jitter) / period).
+    /// The exact steps at an instant, in units of work: work × ceiling((at + jitter) / period), the
+    /// request bound of the row (docs/RULES.md, Exact steps). They rise just after the instants
+    /// b × period − jitter, by the work of one job.
     pub fn steps(&self, at: u32) -> u64
         ensures answered { result ≡ steps self.now at }
         ensures jobs { CountsJobs self.now at result }

@@ -17,35 +17,37 @@ use crate::refusals::{Fault, Refusal};
 use crate::tasks::{Numbers, Row};
 
 impl Numbers {
-    /// Whether they ask for no work: refusal 4, idle row.
+    /// Whether they ask for no work (refusal 4, idle row).
     pub fn is_idle(&self) -> bool
         ensures { result ≡ is_idle self.now }
     {
         self.work == 0
     }
 
-    /// Whether work and jitter together pass the deadline: refusal 5, no window.
+    /// Whether work and jitter together pass the deadline (refusal 5, no window).
     pub fn has_no_window(&self) -> bool
         ensures { result ≡ has_no_window self.now }
     {
         u64::from(self.work) + u64::from(self.jitter) > u64::from(self.deadline)
     }
 
-    /// Whether the deadline passes the period: refusal 6, late deadline.
+    /// Whether the deadline passes the period (refusal 6, late deadline).
     pub fn has_late_deadline(&self) -> bool
         ensures { result ≡ has_late_deadline self.now }
     {
         self.deadline > self.period
     }
 
-    /// Whether the period passes the horizon: refusal 7, long period.
+    /// Whether the period passes the horizon (refusal 7, long period).
     pub fn has_long_period(&self) -> bool
         ensures { result ≡ has_long_period self.now }
     {
         self.period > HORIZON
     }
 
-    /// The row of these four numbers. A refusal tells the position that the caller hands in.
+    /// The row of these four numbers (docs/RULES.md, Rows). Refused with the first of these that
+    /// applies: 4, idle row; 5, no window; 6, late deadline; 7, long period. A refusal tells the
+    /// position that the caller hands in.
     pub fn judge(&self, at: u32) -> Result<Row, Fault>
         ensures { answer plain result ≡ checked (flaw_checks row_flaws self.now at) self.now }
     {
@@ -69,7 +71,8 @@ impl Numbers {
         })
     }
 
-    /// The row of these four numbers on a frame, which its period has to divide.
+    /// The row of these four numbers on a frame, which its period has to divide: refused as `judge`
+    /// does, and then with 8, off frame. Whether the number given is a frame is not judged here.
     pub fn judge_on(&self, frame: u32, at: u32) -> Result<Row, Fault>
         ensures { answer plain result ≡ checked (flaw_checks (frame_flaws frame) self.now at) self.now }
     {

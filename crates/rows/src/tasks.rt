@@ -2,7 +2,8 @@
 ghost use Rattle.std.specs.Prelude.{◌+◌, ◌≤◌};
 ghost use Rattle.rows.specs.Times.{horizon};
 
-/// Four plain numbers that nobody has judged: work, deadline, period and jitter of a task to be.
+/// Four plain numbers that nobody has judged: work, deadline, period and jitter of a task to be, in
+/// ticks.
 #[derive(Clone, Copy, PartialEq, Eq, Debug)]
 pub struct Numbers {
     pub work: u32,
@@ -11,7 +12,7 @@ pub struct Numbers {
     pub jitter: u32,
 }
 
-/// A row of a table: a sporadic task that passed judgement. Its work is its worst-case execution
+/// A row of a table: a sporadic task that passed judgement (docs/RULES.md, Rows). Its work is its worst-case execution
 /// time, its deadline is counted from release, its period is the least gap between two releases,
 /// and its jitter the longest wait from release to readiness. Rank 1 is the highest priority.
 #[derive(Clone, Copy, PartialEq, Eq, Debug)]

@@ -5,8 +5,8 @@ ghost use Rattle.verdicts.specs.Found.{verdict_rest};
 
 use rows::Row;
 
-/// Whether a row meets its deadline: it does, with its first rest, the least instant by which all
-/// that is demanded up to it is served; or it misses.
+/// Whether a row meets its deadline: it does, with its first rest in ticks, the least instant by
+/// which all that is demanded up to it is served; or it misses (docs/RULES.md, Rests).
 #[derive(Clone, Copy, PartialEq, Eq, Debug)]
 pub enum Verdict {
     Meets(u32),
@@ -21,8 +21,8 @@ pub struct Finding {
 }
 
 impl Finding {
-    /// The first rest plus the row's jitter: in exact steps the response time, by another bound a
-    /// bound on it.
+    /// The first rest plus the row's jitter, in ticks: in exact steps the response time, by another
+    /// bound a bound on it; none where the row misses.
     pub fn response_bound(&self, row: &Row) -> Option<u64>
         ensures { result ≡ option_map (λ t. t + row.now.jitter) (verdict_rest self.now.verdict) }
     {

@@ -35,7 +35,7 @@ module _ (k : ℕ) (r : Row) where
   still_before t late rest before =
       let order = leb-true (t + r.jitter) begin before in
       let some = lt_of_mul-lt-mul_right r.period {m = 0} {n = k - 1} (omega arith) in
-      let apart : t + r.jitter ≡ begin → ⊥ = λ whole. both_ways (is_rise r t) rest (multiple_rises r t (k - 1) some whole) in
+      let apart : t + r.jitter ≡ begin → ⊥ = λ multiple. both_ways (is_rise r t) rest (multiple_rises r t (k - 1) some multiple) in
       le-leb (t + 1 + r.jitter) begin (omega arith)
 
   -- the first rise is the first corner where it is before the tail

@@ -27,14 +27,14 @@ line_straight : (h : ℕ) (r : Row) (t : ℕ) → 1 ≤ t → line h r (t - 1) +
 line_straight h r zero late = absurd (omega arith)
 line_straight h r (suc t) _ = let e : suc t - 1 ≡ t = omega arith in rw e (omega arith)
 
-module _ (h : ℕ) (r : Row) (t : ℕ) (whole : h / r.period * r.period ≡ h) where
+module _ (h : ℕ) (r : Row) (t : ℕ) (divides : h / r.period * r.period ≡ h) where
   -- the steps on a frame are a multiple of the share
   steps_shared : h * steps r t ≡ share h r * (r.period * ceiling (t + r.jitter) r.period)
-  steps_shared = ap (λ n. n * steps r t) (sym whole) ∙ omega arith
+  steps_shared = ap (λ n. n * steps r t) (sym divides) ∙ omega arith
 
   -- and so is the line
   line_shared : line h r t ≡ share h r * (r.period + (t + r.jitter))
-  line_shared = ap (λ n. n * r.work + (t + r.jitter) * r.work * (h / r.period)) (sym whole) ∙ omega arith
+  line_shared = ap (λ n. n * r.work + (t + r.jitter) * r.work * (h / r.period)) (sym divides) ∙ omega arith
 
   -- the line is nowhere below the steps
   line_covers : h * steps r t ≤ line h r t
@@ -60,7 +60,7 @@ module _ (k h : ℕ) (r : Row) where
 
   -- the amount is nowhere above the line
   pub below_line : (t : ℕ) → h / r.period * r.period ≡ h → amount t ≤ line h r t
-  below_line t whole = cond_both (is_before_tail k r t) (h * steps r t) (line h r t) (λ x. x ≤ line h r t) (λ _. line_covers h r t whole) (λ _. omega arith)
+  below_line t divides = cond_both (is_before_tail k r t) (h * steps r t) (line h r t) (λ x. x ≤ line h r t) (λ _. line_covers h r t divides) (λ _. omega arith)
 
   -- before the tail the amount bends upward only where steps rise
   bends_before : (t : ℕ) → 1 ≤ t → is_rise r t ≡ false → is_before_tail k r t ≡ true → amount (t - 1) + amount (t + 1) ≤ 2 * amount t
@@ -69,8 +69,8 @@ module _ (k h : ℕ) (r : Row) where
 
   -- past the tail's beginning it does not bend upward at all
   bends_after : (t : ℕ) → 1 ≤ t → h / r.period * r.period ≡ h → is_before_tail k r t ≡ false → amount (t - 1) + amount (t + 1) ≤ 2 * amount t
-  bends_after t late whole past =
-      let before = below_line (t - 1) whole in
+  bends_after t late divides past =
+      let before = below_line (t - 1) divides in
       let straight = line_straight h r t late in
       rw (past, later_past k r t (t + 1) (omega arith) past) (omega arith)
 
