@@ -1,18 +1,21 @@
 -- At most one answer fits a string of bytes.
-use Rattle.std.proofs.Common.{◌≡◌, ℕ, List, [], ◌++◌, length, sym, ap, ◌∙◌, ap₂, subst, Result}
+use Rattle.std.proofs.Common.{refl, ◌≡◌, ℕ, List, [], ◌++◌, length, sym, ap, ◌∙◌, ap₂, subst, Result, true, Some, None}
+use Rattle.std.proofs.lemmas.Bool.{false≢true}
 use Rattle.std.proofs.lemmas.List.{append-nil}
 use Rattle.rows.specs.declared.refusals.Fault.{Fault}
 use Rattle.rows.specs.Answers.{Answer, gives, refuses, first_refusal}
 use Rattle.leaves.specs.declared.entries.Entry.{Entry}
 use Rattle.leaves.specs.Contents.{Contents, entries, bytes_of, encoding}
 use Rattle.reading.specs.declared.phases.Phase.{Phase}
-use Rattle.reading.specs.declared.phases.Phase.TheVariants.{Opening, Closed}
+use Rattle.reading.specs.declared.phases.Phase.TheVariants.{Opening, Rows, Findings, Closed}
 use Rattle.reading.specs.Checks.{next_checks}
-use Rattle.reading.specs.Grammar.{Run}
+use Rattle.reading.specs.Grammar.{Step, Run}
+use Rattle.reading.specs.Phases.{is_closed, IsSound}
+use Rattle.reading.specs.Stepping.{Reading, reading, TakesOnce}
 use Rattle.reading.specs.Whole.{IsRefusedAt, Fits, FitsOnce}
 use Rattle.reading.specs.declared.whole.Leaf.{Leaf}
 use Rattle.reading.specs.Leaves.{Reads}
-use Rattle.reading.proofs.Steps.{opening_sound, step_passes, closed_stuck}
+use Rattle.reading.proofs.Steps.{opening_sound, step_passes, step_once, closed_stuck}
 use Rattle.reading.proofs.Runs.{run_sound, IsStuck, run_once}
 use Rattle.reading.proofs.Contents.{lawful_run, same_contents}
 
@@ -22,6 +25,22 @@ refused_stuck r e q more step split =
     let passes = ap (λ xs. first_refusal (next_checks r.phase (length (bytes_of r.before)) xs)) split ∙ step_passes step (run_sound r.run opening_sound) (length (bytes_of r.before)) more in
     let both = sym r.fails ∙ passes in
     cc
+
+-- nothing leads on from a closed phase
+closed_stays : (p q : Phase) (e : Entry) → is_closed p ≡ true → Step p e q → ⊥
+closed_stays Opening q e closed step = false≢true closed
+closed_stays (Rows h n) q e closed step = false≢true closed
+closed_stays (Findings h n m) q e closed step = false≢true closed
+closed_stays (Closed h n) q e closed step = closed_stuck step
+
+-- so a reader that is sound takes one entry or none
+pub takes_once : (old : Reading) → IsSound old.phase → TakesOnce old
+takes_once old sound None None new other none also = (refl, none.2 ∙ sym also.2)
+takes_once old sound None (Some e) new other none taken = absurd (closed_stays old.phase other.phase e none.0 taken.step)
+takes_once old sound (Some e) None new other taken none = absurd (closed_stays old.phase new.phase e none.0 taken.step)
+takes_once old sound (Some e) (Some f) new other taken also =
+    let once = step_once taken.step also.step sound new.left other.left (sym taken.split ∙ also.split) in
+    (ap Some once.0, ap₂ reading once.1 once.2)
 
 -- what fits contents, beside another run
 module _ (bytes : List ℕ) (c : Contents) (fits : Fits bytes (gives c)) {es : List Entry} {p : Phase} (left : List ℕ) (split : bytes ≡ bytes_of es ++ left) (run : Run Opening es p) (stuck : IsStuck p left) where

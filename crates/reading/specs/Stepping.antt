@@ -24,3 +24,7 @@ pub record TakesEntry (old : Reading) (e : Entry) (new : Reading) : Type 0 where
 abbrev pub Takes : Reading → Option Entry → Reading → Type 0
 Takes old (Some e) new = TakesEntry old e new
 Takes old None new = IsTrue (is_closed old.phase) × (old.left ≡ []) × (new ≡ old)
+
+-- no other entry could have been taken, and it could have left the reader nowhere else
+abbrev pub TakesOnce : Reading → Type 0
+TakesOnce old = (a b : Option Entry) (new other : Reading) → Takes old a new → Takes old b other → (a ≡ b) × (new ≡ other)

@@ -27,8 +27,8 @@ impl<'a> Reader<'a> {
     ghost use Rattle.std.specs.Prelude.{IsTrue, ◌≡◌, IfOk, IsTrue, OnErr, MatchOption, []};
     ghost use Rattle.rows.specs.Answers.{refusal, first_refusal};
     ghost use Rattle.reading.specs.Checks.{next_checks};
-    ghost use Rattle.reading.specs.Phases.{is_closed, place_of};
-    ghost use Rattle.reading.specs.Stepping.{TakesEntry, Takes, reading};
+    ghost use Rattle.reading.specs.Phases.{is_closed, place_of, IsSound};
+    ghost use Rattle.reading.specs.Stepping.{TakesEntry, Takes, TakesOnce, reading};
 
     /// A reader before the first of the bytes.
     pub fn new(bytes: &'a [u8]) -> Reader<'a>
@@ -40,9 +40,11 @@ impl<'a> Reader<'a> {
         }
     }
 
-    /// Where the next entry begins: the offset of its kind byte in the bytes of the leaf.
+    /// Where the next entry begins: the offset of its kind byte in the bytes of the leaf. No more than
+    /// a full table has come, and no more findings than rows.
     pub fn place(&self) -> u32
-        ensures { result ≡ place_of self.now.phase }
+        ensures answered { result ≡ place_of self.now.phase }
+        ensures sound { IsSound self.now.phase }
     {
         match self.phase {
             Phase::Opening => 0,
@@ -60,11 +62,13 @@ impl<'a> Reader<'a> {
     }
 
     /// The next entry; none after the end. A refusal tells the first check that fails at the place
-    /// (docs/FORMAT.md has their order) and leaves the reader as it was.
+    /// (docs/FORMAT.md has their order) and leaves the reader as it was, so that asking again gives
+    /// the same; after the end it is none each time.
     pub fn next_entry(&mut self) -> Result<Option<Entry>, Fault>
         ensures answered { refusal result
             ≡ first_refusal (next_checks self.old.phase (place_of self.old.phase) self.old.left) }
         ensures taken { IfOk result (λ o. Takes self.old o self.new) }
+        ensures once { TakesOnce self.old }
         ensures refused { OnErr result (self.new ≡ self.old) }
     {
         match self.taken()? {
@@ -84,6 +88,7 @@ impl<'a> Reader<'a> {
         ensures taken { IfOk result (λ o. MatchOption o
             (IsTrue (is_closed self.now.phase) × (self.now.left ≡ []))
             (λ t. TakesEntry self.now t.entry (reading t.phase t.left.now))) }
+        ensures sound { IsSound self.now.phase }
     {
         let at = self.place();
         let taken = match (self.phase, self.left) {
