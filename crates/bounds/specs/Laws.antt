@@ -10,7 +10,8 @@ pub record Laws (m : Meaning) : Type 0 where
   -- the amount is nowhere below the exact steps
   pub covers : (h : ℕ) (r : Row) (t : ℕ) → IsTrue (is_asked h r t) → h * steps r t ≤ m.amount h r t
   -- and at most (k + 1) / k times as large
-  pub close : (h : ℕ) (r : Row) (t : ℕ) → IsTrue (is_asked h r t) → m.accuracy * m.amount h r t ≤ (m.accuracy + 1) * (h * steps r t)
+  pub close : (h : ℕ) (r : Row) (t : ℕ) → IsTrue (is_asked h r t)
+      → m.accuracy * m.amount h r t ≤ (m.accuracy + 1) * (h * steps r t)
   -- the accuracy runs from 1 to the greatest
   pub some_accuracy : 1 ≤ m.accuracy
   pub most_accuracy : m.accuracy ≤ finest

@@ -16,7 +16,7 @@ use Rattle.findings.specs.Exact.{exact_demand, is_exact_rest, exact_rest}
 use Rattle.findings.specs.Findings.{first_rest}
 use Rattle.findings.proofs.Amounts.{asked_on_frame}
 use Rattle.findings.proofs.FixedPoint.{sum_scaled, leb_scaled, rests_exactly}
-use Rattle.findings.specs.Fitting.{StandOn}
+use Rattle.findings.specs.Countable.{StandOn}
 use Rattle.brackets.specs.Bracketing.{is_slow_rest, slow_rest, Brackets, FewerIsNoLater}
 use Rattle.brackets.proofs.Earlier.{no_later, none_later}
 

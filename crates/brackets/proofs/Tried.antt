@@ -13,7 +13,7 @@ use Rattle.verdicts.specs.declared.verdicts.Verdict.{Verdict}
 use Rattle.findings.specs.Asking.{question_checks}
 use Rattle.verdicts.specs.Found.{verdict_rest, tells}
 use Rattle.findings.specs.Findings.{row_finding}
-use Rattle.findings.specs.Fitting.{StandOn}
+use Rattle.findings.specs.Countable.{StandOn}
 use Rattle.brackets.specs.Counting.{has_rest_by, MeetsFrom}
 use Rattle.brackets.proofs.Earlier.{some_earlier}
 use Rattle.brackets.proofs.Tails.{finer_tails}

@@ -8,7 +8,7 @@ use Rattle.bounds.specs.Meaning.{Meaning}
 use Rattle.bounds.specs.Supplied.{linear_tail}
 use Rattle.findings.specs.Exact.{exact_demand, exact_rest}
 use Rattle.findings.specs.Findings.{row_finding}
-use Rattle.findings.specs.Fitting.{StandOn}
+use Rattle.findings.specs.Countable.{StandOn}
 
 -- the first rest a comes no later than b: wherever there is a b, there is an a, and it is at most b
 abbrev pub IsNoLater : Option ℕ → Option ℕ → Type 0

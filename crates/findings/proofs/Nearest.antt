@@ -12,7 +12,7 @@ use Rattle.bounds.specs.Answering.{corner_answered}
 use Rattle.bounds.specs.Lemmas.Instants.{least_after}
 use Rattle.findings.specs.Demand.{Load}
 use Rattle.findings.specs.Findings.{is_tested}
-use Rattle.findings.specs.Fitting.{StandOn}
+use Rattle.findings.specs.Countable.{StandOn}
 use Rattle.findings.proofs.Amounts.{asked_on_frame}
 
 -- a first instant is one for another test that finds nothing earlier and holds there

@@ -9,7 +9,7 @@ use Rattle.findings.specs.Demand.{Load, is_rest}
 use Rattle.findings.specs.Points.{is_bend}
 use Rattle.verdicts.specs.Found.{Found}
 use Rattle.findings.specs.Findings.{first_rest, is_tested, is_resting_point, stop, points, load_finding, Says}
-use Rattle.findings.specs.Fitting.{StandOn}
+use Rattle.findings.specs.Countable.{StandOn}
 use Rattle.findings.proofs.Turning.{not_before}
 use Rattle.findings.proofs.Amounts.{no_rest_at_start, rests_on}
 

@@ -3,6 +3,6 @@ pub mod Points
 pub mod Findings
 pub mod Tables
 pub mod Asking
-pub mod Fitting
+pub mod Countable
 pub mod Loads
 pub mod Exact

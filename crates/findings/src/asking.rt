@@ -7,7 +7,7 @@ ghost use Rattle.findings.specs.Asking.{most_above, question_checks};
 ghost use Rattle.verdicts.specs.Found.{tells};
 ghost use Rattle.findings.specs.Findings.{row_finding, RowSays};
 ghost use Rattle.findings.specs.Exact.{response, Responds};
-ghost use Rattle.findings.specs.Fitting.{Fit};
+ghost use Rattle.findings.specs.Countable.{CanBeCounted};
 
 use crate::frames::check_rows;
 use crate::loads::Load;
@@ -22,7 +22,7 @@ const MOST_ABOVE: usize = MOST_ROWS - 1;
 fn check_question(frame: u32, row: &Row, above: &[Row]) -> Result<(), Fault>
     ensures answered { answer (λ u. u) result
         ≡ checked (question_checks frame row.now above.now) tt }
-    ensures fit { OnOk result (Fit most_above frame above.now) }
+    ensures countable { OnOk result (CanBeCounted most_above frame above.now) }
 {
     if !is_frame(frame) {
         return Err(Refusal::BadFrame.at(0));
@@ -57,8 +57,8 @@ pub fn find<B: Bound>(bound: &B, frame: u32, row: &Row, above: &[Row]) -> Result
 /// The response time of a row below others in ticks from its release, in exact steps: none where it
 /// misses its deadline (docs/RULES.md, Rests). It is the same on each frame that the rows stand on.
 ///
-/// Refused as `find` is: 1, bad frame, at 0; 9, full table, at 0; 8, off frame, at the smallest rank
-/// that is off the frame.
+/// Refused as `find` is: 1, bad frame, at 0; 9, full table, at 0; 8, off frame, at the smallest
+/// rank that is off the frame.
 pub fn response_time(frame: u32, row: &Row, above: &[Row]) -> Result<Option<u64>, Fault>
     ensures answered { answer (λ o. o) result
         ≡ checked (question_checks frame row.now above.now) (response row.now above.now) }

@@ -7,7 +7,7 @@ ghost use Rattle.bounds.specs.Instants.{IsFirst};
 ghost use Rattle.findings.specs.Asking.{most_above};
 ghost use Rattle.findings.specs.Demand.{load, above_demand, is_rest};
 ghost use Rattle.findings.specs.Findings.{is_tested};
-ghost use Rattle.findings.specs.Fitting.{Fit};
+ghost use Rattle.findings.specs.Countable.{CanBeCounted};
 ghost use Rattle.findings.specs.Loads.{load_of};
 
 use crate::loads::Load;
@@ -17,7 +17,7 @@ use rows::Row;
 impl<'a, B: Bound> Load<'a, B> {
     // The load of some own work below rows that passed their checks.
     pub(crate) fn new(bound: &'a B, frame: u32, own: u32, above: &'a [Row]) -> Self
-        requires { Fit most_above frame above.now }
+        requires { CanBeCounted most_above frame above.now }
         ensures { load_of result ≡ load (B.meaning bound.now) frame own above.now }
     {
         Load {

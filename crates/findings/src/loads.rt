@@ -1,6 +1,6 @@
 // A load on the processor, as the search holds it.
 ghost use Rattle.findings.specs.Asking.{most_above};
-ghost use Rattle.findings.specs.Fitting.{Fit};
+ghost use Rattle.findings.specs.Countable.{CanBeCounted};
 
 use bounds::Bound;
 use rows::Row;
@@ -12,5 +12,5 @@ pub(crate) struct Load<'a, B: Bound> {
     pub(crate) frame: u32,
     pub(crate) own: u32,
     pub(crate) above: &'a [Row],
-    ghost fit: { Fit most_above frame above.now },
+    ghost countable: { CanBeCounted most_above frame above.now },
 }

@@ -6,7 +6,7 @@ ghost use Rattle.rows.specs.Times.{most_rows};
 ghost use Rattle.findings.specs.Asking.{size_checks, table_checks};
 ghost use Rattle.verdicts.specs.Found.{tells};
 ghost use Rattle.findings.specs.Tables.{findings_of, TableSays};
-ghost use Rattle.findings.specs.Fitting.{Fit, HasPlaces};
+ghost use Rattle.findings.specs.Countable.{CanBeCounted, HasPlaces};
 
 use crate::frames::check_rows;
 use crate::loads::Load;
@@ -37,7 +37,7 @@ pub fn check_size(frame: u32, rows: usize, places: usize) -> Result<(), Fault>
 // What is checked of rows before they are counted into a list of so many places.
 fn check_table(frame: u32, rows: &[Row], places: usize) -> Result<(), Fault>
     ensures answered { answer (λ u. u) result ≡ checked (table_checks frame rows.now places) tt }
-    ensures fit { OnOk result (Fit most_rows frame rows.now) }
+    ensures countable { OnOk result (CanBeCounted most_rows frame rows.now) }
     ensures room { OnOk result (length rows.now ≤ places) }
 {
     check_size(frame, rows.len(), places)?;
@@ -46,7 +46,7 @@ fn check_table(frame: u32, rows: &[Row], places: usize) -> Result<(), Fault>
 
 // Puts the findings of the rows from a place on into the list, each at its row's place.
 fn fill<B: Bound>(bound: &B, frame: u32, rows: &[Row], from: usize, list: &mut [Finding])
-    requires fit { Fit most_rows frame rows.now }
+    requires countable { CanBeCounted most_rows frame rows.now }
     requires room { length rows.now ≤ length list.old }
     ensures filled { map tells list.new
         ≡ written (map tells list.old) from

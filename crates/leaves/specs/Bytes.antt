@@ -8,4 +8,6 @@ four n = to_be_bytes w32 n
 
 -- the number in the four bytes from place i on
 abbrev pub number_at : ℕ → List ℕ → ℕ
-number_at i bytes = from_be_bytes w32 (slice_index bytes i ∷ slice_index bytes (i + 1) ∷ slice_index bytes (i + 2) ∷ slice_index bytes (i + 3) ∷ [])
+number_at i bytes =
+    from_be_bytes w32
+    (slice_index bytes i ∷ slice_index bytes (i + 1) ∷ slice_index bytes (i + 2) ∷ slice_index bytes (i + 3) ∷ [])

@@ -19,7 +19,9 @@ pub record Contents : Type 0 where
 
 -- the entries of a leaf: the heading, each row, each finding, and the end with the number of those before it
 abbrev pub entries : Contents → List Entry
-entries c = heading c.heading ∷ map row c.rows ++ (map finding c.findings ++ end (1 + length c.rows + length c.findings) ∷ [])
+entries c =
+    heading c.heading ∷ map row c.rows
+    ++ (map finding c.findings ++ end (1 + length c.rows + length c.findings) ∷ [])
 
 -- the bytes of entries, one after the other
 abbrev pub bytes_of : List Entry → List ℕ

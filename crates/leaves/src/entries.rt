@@ -36,8 +36,8 @@ pub struct Heading {
     pub ghost near: { frame ≤ horizon },
 }
 
-/// An entry of a leaf (docs/FORMAT.md, Entries): the heading, a row, the finding about a row, or the end with the number of
-/// entries before it.
+/// An entry of a leaf (docs/FORMAT.md, Entries): the heading, a row, the finding about a row, or the
+/// end with the number of entries before it.
 #[derive(Clone, Copy, PartialEq, Eq, Debug)]
 pub enum Entry {
     Heading(Heading),

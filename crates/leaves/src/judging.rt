@@ -10,9 +10,9 @@ use rows::{Fault, HORIZON, Refusal, is_frame};
 use verdicts::{Finding, Verdict};
 
 impl HeadingNumbers {
-    /// The heading of these numbers; refused with 1, bad frame, 20, unknown bound, or 3, bad
-    /// accuracy, in this order. A refusal tells the position that the caller hands in. docs/FORMAT.md
-    /// has the ranges.
+    /// The heading of these numbers (docs/FORMAT.md has their ranges). Refused with the first of
+    /// these that applies: 1, bad frame; 20, unknown bound; 3, bad accuracy. A refusal tells the
+    /// position that the caller hands in.
     pub fn judge(&self, at: u32) -> Result<Heading, Fault>
         ensures { answer heading_plain result ≡ checked (heading_checks self.now at) self.now }
     {

@@ -24,11 +24,19 @@ heading_fields body = record { frame = number_at 0 body; bound = slice_index bod
 
 -- the numbers in the body of R
 abbrev pub row_fields : List ℕ → Numbers
-row_fields body = record { work = number_at 0 body; deadline = number_at 4 body; period = number_at 8 body; jitter = number_at 12 body }
+row_fields body = record {
+  work = number_at 0 body;
+  deadline = number_at 4 body;
+  period = number_at 8 body;
+  jitter = number_at 12 body;
+}
 
 -- the finding in the body of A, where a first rest of 0 is a miss
 abbrev pub finding_fields : List ℕ → Finding
-finding_fields body = record { verdict = if number_at 0 body == 0 then Misses else Meets (number_at 0 body); points = number_at 4 body }
+finding_fields body = record {
+  verdict = if number_at 0 body == 0 then Misses else Meets (number_at 0 body);
+  points = number_at 4 body;
+}
 
 -- the bytes end inside a body of so many bytes: cut leaf, told at the first byte missing
 abbrev pub cut : ℕ → ℕ → List ℕ → Check
@@ -40,16 +48,25 @@ heading_entry_checks at body = cut heading_size at body ∷ heading_checks (head
 
 -- R on a frame, after so many rows: full table, cut leaf; then its numbers
 abbrev pub row_entry_checks : ℕ → ℕ → ℕ → List ℕ → List Check
-row_entry_checks h rows at body = check (nat_le most_rows rows) 9 at ∷ cut row_size at body ∷ flaw_checks (frame_flaws h) (row_fields body) at
+row_entry_checks h rows at body =
+    check (nat_le most_rows rows) 9 at
+    ∷ cut row_size at body
+    ∷ flaw_checks (frame_flaws h) (row_fields body) at
 
 -- A after so many rows and findings: miscount, cut leaf; then the finding
 abbrev pub finding_entry_checks : ℕ → ℕ → ℕ → List ℕ → List Check
-finding_entry_checks rows findings at body = check (nat_le rows findings) 16 at ∷ cut finding_size at body ∷ finding_checks (finding_fields body) at
+finding_entry_checks rows findings at body =
+    check (nat_le rows findings) 16 at
+    ∷ cut finding_size at body
+    ∷ finding_checks (finding_fields body) at
 
 -- Z after so many rows and findings: miscount, cut leaf; then its number
 abbrev pub end_entry_checks : ℕ → ℕ → ℕ → List ℕ → List Check
 end_entry_checks rows findings at body =
-    check (nat_lt findings rows) 16 at ∷ cut end_size at body ∷ check (not (number_at 0 body == 1 + rows + findings)) 16 at ∷ []
+    check (nat_lt findings rows) 16 at
+    ∷ cut end_size at body
+    ∷ check (not (number_at 0 body == 1 + rows + findings)) 16 at
+    ∷ []
 
 -- what is left to check of an entry whose kind is in turn
 abbrev pub kind_checks : Phase → ℕ → ℕ → List ℕ → List Check
@@ -63,4 +80,8 @@ kind_checks p k at body =
 -- no byte is left, strange letter, out of turn, and then what is left by the kind
 abbrev pub next_checks : Phase → ℕ → List ℕ → List Check
 next_checks p at [] = check (not (is_closed p)) 13 at ∷ []
-next_checks p at (k ∷ body) = check (is_closed p) 18 at ∷ check (not (is_kind k)) 14 at ∷ check (not (is_in_turn p k)) 15 at ∷ kind_checks p k at body
+next_checks p at (k ∷ body) =
+    check (is_closed p) 18 at
+    ∷ check (not (is_kind k)) 14 at
+    ∷ check (not (is_in_turn p k)) 15 at
+    ∷ kind_checks p k at body

@@ -21,11 +21,14 @@ pub data Step : Phase → Entry → Phase → Type 0 where
   -- the heading opens the rows
   opens : {h : Heading} → Step Opening (heading h) (Rows h 0)
   -- a row on the frame comes after fewer than a full table
-  stands : {h : Heading} {n : ℕ} {r : Row} → n < most_rows → IsTrue (is_on_frame h.frame r) → Step (Rows h n) (row r) (Rows h (n + 1))
+  stands : {h : Heading} {n : ℕ} {r : Row}
+      → n < most_rows → IsTrue (is_on_frame h.frame r) → Step (Rows h n) (row r) (Rows h (n + 1))
   -- a finding that can be filed comes after fewer findings than rows; the first one ends the rows
-  finds : {p : Phase} {h : Heading} {n m : ℕ} {f : Finding} → TakesFindings p h n m → m < n → IsFilable f → Step p (finding f) (Findings h n (m + 1))
+  finds : {p : Phase} {h : Heading} {n m : ℕ} {f : Finding}
+      → TakesFindings p h n m → m < n → IsFilable f → Step p (finding f) (Findings h n (m + 1))
   -- the end comes after as many findings as rows, and tells how many entries came before it
-  closes : {p : Phase} {h : Heading} {n m k : ℕ} → TakesFindings p h n m → m ≡ n → k ≡ 1 + n + m → Step p (end k) (Closed h n)
+  closes : {p : Phase} {h : Heading} {n m k : ℕ}
+      → TakesFindings p h n m → m ≡ n → k ≡ 1 + n + m → Step p (end k) (Closed h n)
 
 -- entries lead from one phase to another, one after the other
 pub data Run : Phase → List Entry → Phase → Type 0 where

@@ -28,7 +28,8 @@ pub record Holds (leaf : Leaf) (c : Contents) : Type 0 where
 
 -- the runs of a leaf stand in the bytes that it was read from, one after the other
 abbrev pub ArePartsOf : List ℕ → Leaf → Type 0
-ArePartsOf bytes leaf = (end : List ℕ) × (bytes ≡ entry_bytes (heading (heading_of leaf)) ++ (row_run leaf ++ (finding_run leaf ++ end)))
+ArePartsOf bytes leaf =
+    (end : List ℕ) × (bytes ≡ entry_bytes (heading (heading_of leaf)) ++ (row_run leaf ++ (finding_run leaf ++ end)))
 
 -- what reading answers is the answer: a leaf that holds the contents, or the refusal by its number and place
 abbrev pub Reads : Result Leaf Fault → Answer Contents → Type 0

@@ -27,4 +27,5 @@ Takes old None new = IsTrue (is_closed old.phase) × (old.left ≡ []) × (new �
 
 -- no other entry could have been taken, and it could have left the reader nowhere else
 abbrev pub TakesOnce : Reading → Type 0
-TakesOnce old = (a b : Option Entry) (new other : Reading) → Takes old a new → Takes old b other → (a ≡ b) × (new ≡ other)
+TakesOnce old =
+    (a b : Option Entry) (new other : Reading) → Takes old a new → Takes old b other → (a ≡ b) × (new ≡ other)

@@ -1,4 +1,5 @@
-// Entries taken from the bytes that follow their kind byte, once the phase and the kind are known to agree.
+// Entries taken from the bytes that follow their kind byte, once the phase and the kind are known
+// to agree.
 ghost use Rattle.std.specs.Prelude.{◌≡◌, ◌≤◌, ◌∷◌, IfOk};
 ghost use Rattle.rows.specs.Answers.{refusal, first_refusal};
 ghost use Rattle.rows.specs.Times.{horizon};
@@ -31,7 +32,8 @@ pub(crate) fn heading_entry(body: &[u8], at: u32) -> Result<Taken<'_>, Fault>
     requires { at ≤ horizon }
     ensures answered { refusal result ≡ first_refusal (heading_entry_checks at body.now) }
     ensures taken { IfOk result (λ t.
-        TakesEntry (reading Phase.Opening (letter_F ∷ body.now)) t.entry (reading t.phase t.left.now)) }
+        TakesEntry (reading Phase.Opening (letter_F ∷ body.now)) t.entry
+        (reading t.phase t.left.now)) }
 {
     check_length(body, at, HEADING_SIZE)?;
     let heading = heading_fields(body).judge(at)?;
@@ -50,7 +52,8 @@ pub(crate) fn row_entry(
     rows: u8,
 ) -> Result<Taken<'_>, Fault>
     requires { at ≤ horizon }
-    ensures answered { refusal result ≡ first_refusal (row_entry_checks heading.frame rows at body.now) }
+    ensures answered { refusal result
+        ≡ first_refusal (row_entry_checks heading.frame rows at body.now) }
     ensures taken { IfOk result (λ t.
         TakesEntry (reading (Phase.Rows heading rows) (letter_R ∷ body.now)) t.entry
         (reading t.phase t.left.now)) }
@@ -77,7 +80,8 @@ pub(crate) fn finding_entry(
     findings: u8,
 ) -> Result<Taken<'_>, Fault>
     requires { at ≤ horizon }
-    ensures answered { refusal result ≡ first_refusal (finding_entry_checks rows findings at body.now) }
+    ensures answered { refusal result
+        ≡ first_refusal (finding_entry_checks rows findings at body.now) }
     ensures taken { IfOk result (λ t. (p : Phase) → TakesFindings p heading rows findings →
         TakesEntry (reading p (letter_A ∷ body.now)) t.entry (reading t.phase t.left.now)) }
 {
@@ -109,7 +113,8 @@ pub(crate) fn end_entry(
 ) -> Result<Taken<'_>, Fault>
     requires near { at ≤ horizon }
     requires orderly { findings ≤ rows }
-    ensures answered { refusal result ≡ first_refusal (end_entry_checks rows findings at body.now) }
+    ensures answered { refusal result
+        ≡ first_refusal (end_entry_checks rows findings at body.now) }
     ensures taken { IfOk result (λ t. (p : Phase) → TakesFindings p heading rows findings →
         TakesEntry (reading p (letter_Z ∷ body.now)) t.entry (reading t.phase t.left.now)) }
 {

@@ -40,8 +40,8 @@ impl<'a> Reader<'a> {
         }
     }
 
-    /// Where the next entry begins: the offset of its kind byte in the bytes of the leaf. No more than
-    /// a full table has come, and no more findings than rows.
+    /// Where the next entry begins: the offset of its kind byte in the bytes of the leaf. No more
+    /// rows have come than a table may have, and no more findings than rows.
     pub fn place(&self) -> u32
         ensures answered { result ≡ place_of self.now.phase }
         ensures sound { IsSound self.now.phase }

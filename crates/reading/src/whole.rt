@@ -19,8 +19,8 @@ pub struct Leaf<'a> {
     findings: &'a [u8],
 }
 
-/// The leaf that the bytes are, or the first check that fails, with its place (docs/FORMAT.md has the
-/// format and the order of the checks). Every string of bytes has exactly one answer.
+/// The leaf that the bytes are, or the first check that fails, with its place (docs/FORMAT.md has
+/// the format and the order of the checks). Every string of bytes has exactly one answer.
 pub fn read(bytes: &[u8]) -> Result<Leaf<'_>, Fault>
     ensures fits { (a : Answer Contents) × Fits bytes.now a × Reads result a }
     ensures only { (a : Answer Contents) → Fits bytes.now a → Reads result a }

@@ -65,7 +65,16 @@ row_of n =
     dite (dec_le (n.work + n.jitter) n.deadline) (λ roomy.
     dite (dec_le n.deadline n.period) (λ timely.
     dite (dec_le n.period horizon) (λ near.
-    Some (record { work = n.work; deadline = n.deadline; period = n.period; jitter = n.jitter; busy = busy; roomy = roomy; timely = timely; near = near }))
+    Some (record {
+      work = n.work;
+      deadline = n.deadline;
+      period = n.period;
+      jitter = n.jitter;
+      busy = busy;
+      roomy = roomy;
+      timely = timely;
+      near = near;
+    }))
     (λ _. None)) (λ _. None)) (λ _. None)) (λ _. None)
 
 -- the rows of a list of numbers: of those that are rows, in their order

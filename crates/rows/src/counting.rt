@@ -6,7 +6,8 @@ ghost use Rattle.rows.specs.Counting.{is_on_frame, window, steps, CountsJobs, St
 
 use crate::tasks::{Numbers, Row};
 
-/// The last instant that anything is asked about, in ticks (2^24); no period and no frame is longer.
+/// The last instant that anything is asked about, in ticks (2^24). No period and no frame is
+/// longer.
 pub const HORIZON: u32 = 16_777_216;
 
 /// A table has at most this many rows.

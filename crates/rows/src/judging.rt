@@ -74,7 +74,8 @@ impl Numbers {
     /// The row of these four numbers on a frame, which its period has to divide: refused as `judge`
     /// does, and then with 8, off frame. Whether the number given is a frame is not judged here.
     pub fn judge_on(&self, frame: u32, at: u32) -> Result<Row, Fault>
-        ensures { answer plain result ≡ checked (flaw_checks (frame_flaws frame) self.now at) self.now }
+        ensures { answer plain result
+            ≡ checked (flaw_checks (frame_flaws frame) self.now at) self.now }
     {
         let row = self.judge(at)?;
         if !row.stands_on(frame) {

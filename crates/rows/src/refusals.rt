@@ -6,7 +6,7 @@ ghost use Rattle.rows.specs.Shown.{shown_fault};
 use std::error::Error;
 use std::fmt;
 
-/// The refusals, each with the number by which it is known (docs/REFUSALS.md has when each is given).
+/// The refusals, each with the number by which it is known; docs/REFUSALS.md has when each is given.
 #[derive(Clone, Copy, PartialEq, Eq, Debug)]
 pub enum Refusal {
     BadFrame = 1,

@@ -12,9 +12,10 @@ pub struct Numbers {
     pub jitter: u32,
 }
 
-/// A row of a table: a sporadic task that passed judgement (docs/RULES.md, Rows). Its work is its worst-case execution
-/// time, its deadline is counted from release, its period is the least gap between two releases,
-/// and its jitter the longest wait from release to readiness. Rank 1 is the highest priority.
+/// A row of a table: a sporadic task that passed judgement (docs/RULES.md, Rows). Its work is its
+/// worst-case execution time, its deadline is counted from release, its period is the least gap
+/// between two releases, and its jitter the longest wait from release to readiness, all in ticks.
+/// Rank 1 is the highest priority.
 #[derive(Clone, Copy, PartialEq, Eq, Debug)]
 pub struct Row {
     pub work: u32,

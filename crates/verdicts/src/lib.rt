@@ -1,4 +1,5 @@
-//! What is found about a row: whether it meets its deadline, and how many points were tested to know it.
+//! What is found about a row: whether it meets its deadline, and how many points were tested to
+//! know it.
 #![tactic(auto)]
 
 mod verdicts;

@@ -6,11 +6,11 @@ use Rattle.findings.proofs.loads.Load.amounts.Goals as goal
 
 pub sum-requires-clause-fits : goal.sum-requires-clause-fits
 sum-requires-clause-fits g c =
-    let fits = answers_fit (load_of c.args.self.now) (g.met.B.Bound.lawful c.args.self.now.bound.now) c.args.self.now.fit c.args.at c.requires in
+    let fits = answers_fit (load_of c.args.self.now) (g.met.B.Bound.lawful c.args.self.now.bound.now) c.args.self.now.countable c.args.at c.requires in
     search rules
 
 pub returns : goal.returns
 returns g c =
     let l = load_of c.args.self.now in
     let sum : c.sum.result ≡ sum_by (λ r. amount_answered l.bound l.frame r c.args.at) l.above = search rules in
-    sum ∙ sum_answered l.bound l.frame l.above c.args.at c.args.self.now.fit.stands c.requires
+    sum ∙ sum_answered l.bound l.frame l.above c.args.at c.args.self.now.countable.stands c.requires
