@@ -3,3 +3,4 @@ pub mod Headings
 pub mod Judging
 pub mod Entries
 pub mod Contents
+pub mod Fields

@@ -1,5 +1,5 @@
 -- Whole leaves: contents, and the runs that close one.
-use Rattle.std.proofs.Common.{◌≡◌, ℕ, ◌+◌, ◌<◌, ◌≤◌, true, List, [], ◌∷◌, ◌++◌, map, length, sym, refl, ap, ◌∙◌, subst, ap₂, arith}
+use Rattle.std.proofs.Common.{◌≡◌, ℕ, ◌+◌, ◌≤◌, true, List, [], ◌∷◌, ◌++◌, map, length, sym, refl, ap, ◌∙◌, subst, ap₂, arith}
 use Rattle.std.specs.List.{All, AllPass}
 use Rattle.std.proofs.lemmas.List.Elements.{All-cons, All-head, All-nil, All-tail}
 use Rattle.rows.specs.declared.tasks.Row.{Row}
@@ -15,6 +15,7 @@ use Rattle.reading.specs.declared.phases.Phase.{Phase}
 use Rattle.reading.specs.declared.phases.Phase.TheVariants.{Opening, Rows, Findings, Closed}
 use Rattle.reading.specs.Grammar.{TakesFindings, after_rows, after_findings, opens, stands, finds, closes, Run, stays, goes}
 use Rattle.reading.proofs.Steps.{closed_stuck}
+use Rattle.reading.proofs.Runs.{run_sound}
 
 -- findings and the end close a leaf, from any phase that takes findings
 findings_run : (fs : List Finding) {p : Phase} {h : Heading} {n m : ℕ} → TakesFindings p h n m → All IsFilable fs → m + length fs ≡ n → Run p (map finding fs ++ end (1 + n + n) ∷ []) (Closed h n)
@@ -37,105 +38,65 @@ lawful_run c lawful =
     (subst (λ m. Run (Rows c.heading 0) (map row c.rows ++ (map finding c.findings ++ end (1 + length c.rows + m) ∷ [])) (Closed c.heading (length c.rows))) (sym lawful.even)
     (rows_run c.heading 0 (length c.rows) c.rows c.findings (omega arith) lawful.even lawful.few lawful.on lawful.good))
 
--- from a phase that takes findings, what closes the leaf is findings and the end
-record ClosingFindings (h : Heading) (n m : ℕ) (es : List Entry) (g : Heading) (t : ℕ) : Type 0 where
-  filed : List Finding
-  same : es ≡ map finding filed ++ end (1 + n + n) ∷ []
+-- in a leaf with a heading, after n rows and m findings, what closes it is more rows, more findings and the end
+record ClosesBy (h : Heading) (n m : ℕ) (kept : List Row) (filed : List Finding) (es : List Entry) (g : Heading) (t : ℕ) : Type 0 where
+  same : es ≡ map row kept ++ (map finding filed ++ end (1 + t + t) ∷ [])
+  on : AllPass (is_on_frame h.frame) kept
   good : All IsFilable filed
-  count : m + length filed ≡ n
+  total : n + length kept ≡ t
+  count : m + length filed ≡ t
   head : h ≡ g
-  total : n ≡ t
 
 -- nothing follows the end
 after_end : {h g : Heading} {n t : ℕ} {es : List Entry} → Run (Closed h n) es (Closed g t) → (es ≡ []) × (h ≡ g) × (n ≡ t)
 after_end stays = (refl, refl, refl)
 after_end (goes step run) = absurd (closed_stuck step)
 
--- one finding more in front
-one_finding : {h : Heading} {n m : ℕ} {es : List Entry} {g : Heading} {t : ℕ} (f : Finding) → m < n → IsFilable f → ClosingFindings h n (m + 1) es g t → ClosingFindings h n m (finding f ∷ es) g t
-one_finding f missing good later = record {
-  filed = f ∷ later.filed;
-  same = ap (λ xs. finding f ∷ xs) later.same;
-  good = All-cons IsFilable f later.filed good later.good;
-  count = omega (arith, later.count);
-  head = later.head;
-  total = later.total;
-}
+module _ {h g : Heading} {n m t : ℕ} {es : List Entry} where
+  -- the end alone
+  the_end : {k : ℕ} → m ≡ n → k ≡ 1 + n + m → (es ≡ []) × (h ≡ g) × (n ≡ t) → ClosesBy h n m [] [] (end k ∷ es) g t
+  the_end {k = k} even number last =
+      let total = last.2 in
+      let all : k ≡ 1 + t + t = omega arith in
+      record { same = ap₂ (λ x xs. end x ∷ xs) all last.0; on = All-nil (λ s. is_on_frame h.frame s ≡ true); good = All-nil IsFilable; total = omega arith; count = omega arith; head = last.1 }
 
--- or the end
-no_finding : {h : Heading} {n m k : ℕ} {es : List Entry} {g : Heading} {t : ℕ} → m ≡ n → k ≡ 1 + n + m → (es ≡ []) × (h ≡ g) × (n ≡ t) → ClosingFindings h n m (end k ∷ es) g t
-no_finding {n = n} {k = k} even number last =
-    let all : k ≡ 1 + n + n = omega arith in
-    record { filed = []; same = ap₂ (λ x xs. end x ∷ xs) all last.0; good = All-nil IsFilable; count = omega arith; head = last.1; total = last.2 }
+  -- one finding more in front, where no row follows
+  one_finding : {filed : List Finding} (f : Finding) → IsFilable f → ClosesBy h n (m + 1) [] filed es g t → ClosesBy h n m [] (f ∷ filed) (finding f ∷ es) g t
+  one_finding {filed} f good by =
+      record { same = ap (λ xs. finding f ∷ xs) by.same; on = by.on; good = All-cons IsFilable f filed good by.good; total = by.total; count = omega (arith, by.count); head = by.head }
 
-findings_close : {h : Heading} {n m : ℕ} {es : List Entry} {g : Heading} {t : ℕ} → Run (Findings h n m) es (Closed g t) → ClosingFindings h n m es g t
-findings_close (goes (finds {f = f} after_findings missing good) run) = one_finding f missing good (findings_close run)
-findings_close (goes (closes after_findings even number) run) = no_finding even number (after_end run)
+  -- one row more in front
+  one_row : {kept : List Row} {filed : List Finding} (r : Row) → is_on_frame h.frame r ≡ true → ClosesBy h (n + 1) m kept filed es g t → ClosesBy h n m (r ∷ kept) filed (row r ∷ es) g t
+  one_row {kept} r on by =
+      record { same = ap (λ xs. row r ∷ xs) by.same; on = All-cons (λ s. is_on_frame h.frame s ≡ true) r kept on by.on; good = by.good; total = omega (arith, by.total); count = by.count; head = by.head }
 
--- in the rows, what closes the leaf is rows, as many findings, and the end
-record ClosingRows (h : Heading) (n : ℕ) (es : List Entry) (g : Heading) (t : ℕ) : Type 0 where
-  kept : List Row
-  filed : List Finding
-  same : es ≡ map row kept ++ (map finding filed ++ end (1 + t + t) ∷ [])
-  on : AllPass (is_on_frame h.frame) kept
-  good : All IsFilable filed
-  count : length filed ≡ t
-  total : n + length kept ≡ t
-  few : t ≤ most_rows
-  head : h ≡ g
+findings_close : {h g : Heading} {n m t : ℕ} {es : List Entry} → Run (Findings h n m) es (Closed g t) → (filed : List Finding) × ClosesBy h n m [] filed es g t
+findings_close (goes (finds {f = f} after_findings missing good) run) = let (filed, by) = findings_close run in (f ∷ filed, one_finding f good by)
+findings_close (goes (closes after_findings even number) run) = ([], the_end even number (after_end run))
 
--- no row more, where what follows is findings and the end
-no_row : {h : Heading} {n : ℕ} {es : List Entry} {g : Heading} {t : ℕ} → n ≤ most_rows → ClosingFindings h n 0 es g t → ClosingRows h n es g t
-no_row {h = h} few later =
-    let total = later.total in
-    record {
-      kept = [];
-      filed = later.filed;
-      same = later.same ∙ ap (λ x. map finding later.filed ++ end (1 + x + x) ∷ []) total;
-      on = All-nil (λ s. is_on_frame h.frame s ≡ true);
-      good = later.good;
-      count = omega (arith, later.count);
-      total = omega arith;
-      few = omega arith;
-      head = later.head;
-    }
-
-rows_close : {h : Heading} {n : ℕ} {es : List Entry} {g : Heading} {t : ℕ} → Run (Rows h n) es (Closed g t) → n ≤ most_rows → ClosingRows h n es g t
-rows_close {h = h} (goes (stands {r = r} room on) run) few =
-    let later = rows_close run (omega arith) in
-    record {
-      kept = r ∷ later.kept;
-      filed = later.filed;
-      same = ap (λ xs. row r ∷ xs) later.same;
-      on = All-cons (λ s. is_on_frame h.frame s ≡ true) r later.kept on later.on;
-      good = later.good;
-      count = later.count;
-      total = omega (arith, later.total);
-      few = later.few;
-      head = later.head;
-    }
-rows_close (goes (finds {f = f} after_rows missing good) run) few = no_row few (one_finding f missing good (findings_close run))
-rows_close (goes (closes after_rows even number) run) few = no_row few (no_finding even number (after_end run))
+rows_close : {h g : Heading} {n t : ℕ} {es : List Entry} → Run (Rows h n) es (Closed g t) → (kept : List Row) × (filed : List Finding) × ClosesBy h n 0 kept filed es g t
+rows_close (goes (stands {r = r} room on) run) = let (kept, filed, by) = rows_close run in (r ∷ kept, filed, one_row r on by)
+rows_close (goes (finds {f = f} after_rows missing good) run) = let (filed, by) = findings_close run in ([], f ∷ filed, one_finding f good by)
+rows_close (goes (closes after_rows even number) run) = ([], [], the_end even number (after_end run))
 
 -- a run that closes a leaf is that of lawful contents
 pub record Closing (es : List Entry) (g : Heading) (t : ℕ) : Type 0 where
   pub contents : Contents
   pub lawful : IsLawful contents
   pub same : es ≡ entries contents
-  pub head : contents.heading ≡ g
-  pub total : length contents.rows ≡ t
+  pub closed : Closed g t ≡ Closed contents.heading (length contents.rows)
 
 pub closing : {es : List Entry} {g : Heading} {t : ℕ} → Run Opening es (Closed g t) → Closing es g t
-closing {t = t} (goes (opens {h = h}) run) =
-    let rest = rows_close run (omega arith) in
-    let rows : length rest.kept ≡ t = omega (arith, rest.total) in
-    let number : 1 + t + t ≡ 1 + length rest.kept + length rest.filed = omega (arith, rest.count) in
+closing {g = g} {t = t} (goes (opens {h = h}) run) =
+    let (kept, filed, by) = rows_close run in
+    let rows : length kept ≡ t = omega (arith, by.total) in
+    let number : 1 + t + t ≡ 1 + length kept + length filed = omega (arith, by.count) in
+    let few = (run_sound run (record { few = omega arith; orderly = omega arith })).few in
     record {
-      contents = record { heading = h; rows = rest.kept; findings = rest.filed };
-      lawful = record { few = omega (arith, rest.few); on = rest.on; good = rest.good; even = omega (arith, rest.count) };
-      same = ap (λ xs. heading h ∷ xs) (rest.same ∙ ap (λ x. map row rest.kept ++ (map finding rest.filed ++ end x ∷ [])) number);
-      head = rest.head;
-      total = rows;
+      contents = record { heading = h; rows = kept; findings = filed };
+      lawful = record { few = omega arith; on = by.on; good = by.good; even = omega (arith, by.count) };
+      same = ap (λ xs. heading h ∷ xs) (by.same ∙ ap (λ x. map row kept ++ (map finding filed ++ end x ∷ [])) number);
+      closed = ap₂ Closed (sym by.head) (sym rows);
     }
 closing (goes (finds takes missing good) run) = elim takes [ ]
 closing (goes (closes takes even number) run) = elim takes [ ]

@@ -1,5 +1,4 @@
 pub mod Taking
-pub mod Fields
 pub mod Steps
 pub mod Runs
 pub mod Contents

@@ -1,23 +1,18 @@
 -- One step of the grammar: where it leads, that the checks let it pass, and that no bytes allow two.
-use Rattle.std.proofs.Common.{◌≡◌, ℕ, ◌+◌, ◌%◌, ◌<◌, ◌≤◌, true, not, eqb, ltb, leb, List, ◌∷◌, ◌++◌, ◌||◌, ⊎_elim, drop, length, get_or, Some, None, refl, ap, ◌∙◌, arith, if◌then◌else◌}
+use Rattle.std.proofs.Common.{◌≡◌, ℕ, ◌+◌, ◌<◌, ◌≤◌, true, not, eqb, ltb, leb, List, ◌∷◌, ◌++◌, ◌||◌, ⊎_elim, drop, length, get_or, Some, None, refl, ap, ◌∙◌, arith, if◌then◌else◌}
 use Rattle.std.proofs.lemmas.Nat.{from_be_bytes-to_be_bytes_4}
-use Rattle.std.proofs.lemmas.Bool.{and_from, eq-eqb, le-leb, le-ltb, lt-leb, ltb-true, ne_eqb, not_from_true, or_cases}
-use Rattle.rows.specs.declared.tasks.Row.{Row}
+use Rattle.std.proofs.lemmas.Bool.{eq-eqb, le-ltb, lt-leb, ltb-true, not_from_true, or_cases}
 use Rattle.rows.specs.Answers.{Answer, gives, refuses_at, first_refusal}
-use Rattle.rows.specs.Counting.{is_on_frame}
 use Rattle.rows.specs.Judging.{plain, frame_flaws, flaw_checks}
-use Rattle.rows.specs.Times.{horizon, is_frame, most_rows}
+use Rattle.rows.specs.Times.{most_rows}
 use Rattle.rows.proofs.Checks.{passes_on}
-use Rattle.bounds.specs.declared.supplied.Supplied.{Supplied}
-use Rattle.bounds.specs.declared.supplied.Supplied.TheVariants.{ExactSteps as exact, LinearTail as tail}
-use Rattle.bounds.specs.Meaning.{finest, is_accuracy}
 use Rattle.verdicts.specs.declared.verdicts.Finding.{Finding}
 use Rattle.verdicts.specs.Found.{tells}
 use Rattle.leaves.specs.declared.entries.Heading.{Heading}
 use Rattle.leaves.specs.declared.entries.Entry.{Entry}
 use Rattle.leaves.specs.declared.entries.Entry.TheVariants.{Heading as heading, Row as row, Finding as finding, End as end}
 use Rattle.leaves.specs.Bytes.{four, number_at}
-use Rattle.leaves.specs.Headings.{heading_plain, heading_checks, bound_numbers}
+use Rattle.leaves.specs.Headings.{heading_plain, heading_checks}
 use Rattle.leaves.specs.Judging.{is_bad_finding, finding_checks, IsFilable}
 use Rattle.leaves.specs.Entries.{entry_bytes, heading_body, row_body, finding_body, heading_size, row_size, finding_size, end_size}
 use Rattle.reading.specs.declared.phases.Phase.{Phase}
@@ -25,7 +20,8 @@ use Rattle.reading.specs.declared.phases.Phase.TheVariants.{Opening, Rows, Close
 use Rattle.reading.specs.Checks.{next_checks, finding_entry_checks, end_entry_checks}
 use Rattle.reading.specs.Grammar.{after_rows, after_findings, Step, opens, stands, finds, closes}
 use Rattle.reading.specs.Phases.{place_of, IsSound}
-use Rattle.reading.proofs.Fields.{heading_again, row_again, finding_again, heading_once, row_once, finding_once, number_once}
+use Rattle.leaves.proofs.Filing.{heading_passes, row_passes}
+use Rattle.leaves.proofs.Fields.{heading_again, row_again, finding_again, heading_once, row_once, finding_once, number_once}
 
 -- a reader before the first byte is sound
 pub opening_sound : IsSound Opening
@@ -52,24 +48,6 @@ step_place (closes after_findings even number) = omega arith
 -- a body that is long enough is not cut
 uncut : {A : Type 0} (size at : ℕ) (body : List ℕ) (others : Answer A) → size ≤ length body → refuses_at 13 (if ltb (length body) size then Some (at + 1 + length body) else None) others ≡ others
 uncut size at body others enough = passes_on (ltb (length body) size) 13 (at + 1 + length body) others (le-ltb (length body) size enough)
-
--- the numbers of a heading pass their checks
-heading_passes : (h : Heading) (at : ℕ) → first_refusal (heading_checks (heading_plain h) at) ≡ gives tt
-heading_passes h at = passes_on (not (is_frame h.frame)) 1 at _ (not_from_true (is_frame h.frame) (and_from _ _ (le-leb 1 h.frame h.low) (le-leb h.frame horizon h.near))) ∙ named h.bound
-  where
-    named : (b : Supplied) → first_refusal (heading_checks (record { frame = 1; bound = (bound_numbers b).0; accuracy = (bound_numbers b).1 }) at) ≡ gives tt
-    named exact = refl
-    named (tail t) = passes_on (not (is_accuracy t.accuracy)) 3 at _ (not_from_true _ (and_from _ _ (le-leb 1 t.accuracy t.low) (le-leb t.accuracy finest t.high)))
-
--- and so do those of a row on the frame
-row_passes : (h : ℕ) (r : Row) (at : ℕ) → is_on_frame h r ≡ true → first_refusal (flaw_checks (frame_flaws h) (plain r) at) ≡ gives tt
-row_passes h r at on =
-    let busy = ne_eqb r.work 0 (λ e. omega (arith, r.busy)) in
-    let roomy = le-ltb r.deadline (r.work + r.jitter) r.roomy in
-    let timely = le-ltb r.period r.deadline r.timely in
-    let near = le-ltb horizon r.period r.near in
-    let off = not_from_true (eqb (h % r.period) 0) on in
-    rw (busy, roomy, timely, near, off)
 
 -- the checks of A and Z in a phase that takes findings
 finding_passes : (rows findings at : ℕ) (f : Finding) (xs : List ℕ) → findings < rows → IsFilable f → first_refusal (finding_entry_checks rows findings at (finding_body (tells f) ++ xs)) ≡ gives tt

@@ -1,12 +1,10 @@
 -- Entries that pass their checks lead on.
-use Rattle.std.proofs.Common.{◌≡◌, ℕ, ◌+◌, ◌-◌, ◌%◌, ◌^◌, ◌<◌, true, eqb, List, ◌∷◌, ◌++◌, length, take, drop, sym, ap, ◌∙◌, subst}
-use Rattle.std.proofs.lemmas.Bool.{not-false}
+use Rattle.std.proofs.Common.{◌≡◌, ℕ, ◌+◌, ◌-◌, ◌^◌, ◌<◌, List, ◌∷◌, ◌++◌, length, take, drop, sym, ap, ◌∙◌, subst}
 use Rattle.std.proofs.lemmas.List.{take_rest}
 use Rattle.rows.specs.declared.tasks.Numbers.{Numbers}
 use Rattle.rows.specs.declared.tasks.Row.{Row}
 use Rattle.rows.specs.Answers.{gives, checked}
-use Rattle.rows.specs.Counting.{is_on_frame}
-use Rattle.rows.specs.Judging.{plain, frame_flaws, flaw_checks, is_idle, has_no_window, has_late_deadline, has_long_period, is_off_frame}
+use Rattle.rows.specs.Judging.{plain, frame_flaws, flaw_checks}
 use Rattle.rows.specs.Times.{most_rows}
 use Rattle.rows.proofs.Checks.{first_passes, given_is}
 use Rattle.verdicts.specs.declared.verdicts.Finding.{Finding}
@@ -19,20 +17,11 @@ use Rattle.leaves.specs.Bytes.{four}
 use Rattle.leaves.specs.Entries.{heading_body, row_body, finding_body, letter_F, letter_R, letter_A, letter_Z}
 use Rattle.leaves.specs.Headings.{heading_plain, heading_checks}
 use Rattle.leaves.specs.Judging.{is_bad_finding, finding_checks}
+use Rattle.leaves.proofs.Filing.{judged_on}
 use Rattle.reading.specs.declared.phases.Phase.{Phase}
 use Rattle.reading.specs.declared.phases.Phase.TheVariants.{Opening, Rows, Findings, Closed}
 use Rattle.reading.specs.Grammar.{TakesFindings, opens, stands, finds, closes}
 use Rattle.reading.specs.Stepping.{Reading, TakesEntry, reading}
-
--- a row that was judged on a frame stands on it
-judged_on : (h at : ℕ) (r : Row) (n : Numbers) → gives (plain r) ≡ checked (flaw_checks (frame_flaws h) n at) n → is_on_frame h r ≡ true
-judged_on h at r n given =
-    let same = given_is (flaw_checks (frame_flaws h) n at) (plain r) n given in
-    let busy = first_passes (is_idle n) 4 at (plain r) _ given in
-    let roomy = first_passes (has_no_window n) 5 at (plain r) _ busy.1 in
-    let timely = first_passes (has_late_deadline n) 6 at (plain r) _ roomy.1 in
-    let near = first_passes (has_long_period n) 7 at (plain r) _ timely.1 in
-    ap (λ m. eqb (h % m.period) 0) same ∙ not-false _ (first_passes (is_off_frame h n) 8 at (plain r) _ near.1).0
 
 -- what is taken in a phase from some bytes is taken by a reader that is in that phase and has those bytes left
 pub seen_there : (s : Reading) (p : Phase) (left : List ℕ) (q : Phase) (bytes : List ℕ) (e : Entry) (new : Reading) → reading p left ≡ s → p ≡ q → left ≡ bytes → TakesEntry (reading q bytes) e new → TakesEntry s e new

@@ -1,5 +1,5 @@
 -- A reader on its way through a leaf, and where it stops.
-use Rattle.std.proofs.Common.{◌≡◌, ℕ, ◌<◌, true, false, List, [], ◌∷◌, ◌++◌, length, is_some, Some, None, Option, sym, refl, ap, ◌∙◌, subst, arith}
+use Rattle.std.proofs.Common.{◌≡◌, ℕ, ◌<◌, true, List, [], ◌∷◌, ◌++◌, length, None, sym, refl, ap, ◌∙◌, subst, arith}
 use Rattle.std.proofs.lemmas.List.{append-nil, length-append}
 use Rattle.std.proofs.lemmas.Bool.{false≢true}
 use Rattle.rows.specs.Answers.{gives, refuses, first_refusal}
@@ -29,21 +29,16 @@ read_none bytes = record { before = []; split = refl; run = stays }
 
 module _ (bytes : List ℕ) (here next : Reading) (has : HasRead bytes here) where
   -- it has read one entry more
-  read_more : (e : Entry) → TakesEntry here e next → HasRead bytes next
+  pub read_more : (e : Entry) → TakesEntry here e next → HasRead bytes next
   read_more e taken = record {
     before = has.before ++ e ∷ [];
     split = has.split ∙ ap (λ xs. bytes_of has.before ++ xs) taken.split ∙ bytes_push has.before e next.left;
     run = run_push has.run taken.step;
   }
 
-  pub read_on : (o : Option Entry) → Takes here o next → is_some o ≡ true → HasRead bytes next
-  read_on None taken some = absurd (false≢true some)
-  read_on (Some e) taken some = read_more e taken
-
   -- and has fewer bytes left
-  pub fewer_left : (o : Option Entry) → Takes here o next → is_some o ≡ true → length next.left < length here.left
-  fewer_left None taken some = absurd (false≢true some)
-  fewer_left (Some e) taken some = omega (arith, ap length taken.split, length-append (entry_bytes e) next.left, some_bytes e)
+  pub fewer_left : (e : Entry) → TakesEntry here e next → length next.left < length here.left
+  fewer_left e taken = omega (arith, ap length taken.split, length-append (entry_bytes e) next.left, some_bytes e)
     where
       some_bytes : (e : Entry) → 0 < length (entry_bytes e)
       some_bytes (heading h) = omega arith
@@ -68,9 +63,8 @@ pub record HasEnded (bytes : List ℕ) (p : Phase) : Type 0 where
   pub fits : Fits bytes (gives contents)
   pub closed : p ≡ Closed contents.heading (length contents.rows)
 
-pub read_ended : (bytes : List ℕ) (here next : Reading) → HasRead bytes here → (o : Option Entry) → Takes here o next → is_some o ≡ false → HasEnded bytes next.phase
-read_ended bytes here next has (Some e) taken none = absurd (false≢true (sym none))
-read_ended bytes here next has None taken none = subst (λ r. HasEnded bytes r.phase) (sym taken.2) (at here.phase has.run taken.0)
+pub read_ended : (bytes : List ℕ) (here next : Reading) → HasRead bytes here → Takes here None next → HasEnded bytes next.phase
+read_ended bytes here next has taken = subst (λ r. HasEnded bytes r.phase) (sym taken.2) (at here.phase has.run taken.0)
   where
     at : (p : Phase) → Run Opening has.before p → is_closed p ≡ true → HasEnded bytes p
     at Opening run closed = absurd (false≢true closed)
@@ -81,5 +75,5 @@ read_ended bytes here next has None taken none = subst (λ r. HasEnded bytes r.p
         record {
           contents = c.contents;
           fits = (c.lawful, has.split ∙ ap (λ xs. bytes_of has.before ++ xs) taken.1 ∙ append-nil (bytes_of has.before) ∙ ap bytes_of c.same);
-          closed = sym (ap (λ g. Closed g (length c.contents.rows)) c.head ∙ ap (Closed h) c.total);
+          closed = c.closed;
         }

@@ -1,13 +1,10 @@
 -- What is checked at an entry: each check of a leaf stands here, and only here.
-use Rattle.std.specs.Prelude.{ℕ, ◌+◌, Bool, not, ◌||◌, List, [], ◌∷◌, length, slice_index, ◌==◌, nat_le, nat_lt, if◌then◌else◌}
-use Rattle.rows.specs.declared.tasks.Numbers.{Numbers}
+use Rattle.std.specs.Prelude.{ℕ, ◌+◌, Bool, not, ◌||◌, List, [], ◌∷◌, length, ◌==◌, nat_le, nat_lt, if◌then◌else◌}
 use Rattle.rows.specs.Answers.{Check, check}
 use Rattle.rows.specs.Judging.{frame_flaws, flaw_checks}
 use Rattle.rows.specs.Times.{most_rows}
-use Rattle.verdicts.specs.declared.verdicts.Finding.{Finding}
-use Rattle.verdicts.specs.declared.verdicts.Verdict.TheVariants.{Meets, Misses}
-use Rattle.leaves.specs.declared.entries.HeadingNumbers.{HeadingNumbers}
 use Rattle.leaves.specs.Bytes.{number_at}
+use Rattle.leaves.specs.Fields.{heading_fields, row_fields, finding_fields}
 use Rattle.leaves.specs.Headings.{heading_checks}
 use Rattle.leaves.specs.Judging.{finding_checks}
 use Rattle.leaves.specs.Entries.{letter_F, letter_R, letter_A, letter_Z, heading_size, row_size, finding_size, end_size}
@@ -17,26 +14,6 @@ use Rattle.reading.specs.Phases.{rows_in, findings_in, frame_in, is_closed, is_i
 -- the letter of some kind of entry
 abbrev pub is_kind : ℕ → Bool
 is_kind k = k == letter_F || (k == letter_R || (k == letter_A || k == letter_Z))
-
--- the numbers in the body of F
-abbrev pub heading_fields : List ℕ → HeadingNumbers
-heading_fields body = record { frame = number_at 0 body; bound = slice_index body 4; accuracy = slice_index body 5 }
-
--- the numbers in the body of R
-abbrev pub row_fields : List ℕ → Numbers
-row_fields body = record {
-  work = number_at 0 body;
-  deadline = number_at 4 body;
-  period = number_at 8 body;
-  jitter = number_at 12 body;
-}
-
--- the finding in the body of A, where a first rest of 0 is a miss
-abbrev pub finding_fields : List ℕ → Finding
-finding_fields body = record {
-  verdict = if number_at 0 body == 0 then Misses else Meets (number_at 0 body);
-  points = number_at 4 body;
-}
 
 -- the bytes end inside a body of so many bytes: cut leaf, told at the first byte missing
 abbrev pub cut : ℕ → ℕ → List ℕ → Check

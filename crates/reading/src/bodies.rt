@@ -6,7 +6,8 @@ ghost use Rattle.rows.specs.Times.{horizon};
 ghost use Rattle.verdicts.specs.Found.{tells};
 ghost use Rattle.leaves.specs.Bytes.{four, number_at};
 ghost use Rattle.leaves.specs.Entries.{heading_body, row_body, finding_body, heading_size, row_size, finding_size};
-ghost use Rattle.reading.specs.Checks.{cut, heading_fields, row_fields, finding_fields};
+ghost use Rattle.leaves.specs.Fields.{heading_fields, row_fields, finding_fields};
+ghost use Rattle.reading.specs.Checks.{cut};
 
 use leaves::HeadingNumbers;
 use rows::{Fault, Numbers, Refusal};

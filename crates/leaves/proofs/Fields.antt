@@ -16,7 +16,7 @@ use Rattle.leaves.specs.Headings.{heading_plain, bound_numbers}
 use Rattle.leaves.specs.Judging.{is_in_range, IsFilable}
 use Rattle.leaves.specs.Entries.{heading_body, row_body, finding_body, heading_size, row_size, finding_size, end_size}
 use Rattle.leaves.proofs.SameHeading.{same_heading}
-use Rattle.reading.specs.Checks.{heading_fields, row_fields, finding_fields}
+use Rattle.leaves.specs.Fields.{heading_fields, row_fields, finding_fields}
 
 -- the fields of a body are what it was made of
 pub heading_again : (h : Heading) (xs : List ℕ) → heading_fields (heading_body (heading_plain h) ++ xs) ≡ heading_plain h

@@ -1,0 +1,43 @@
+-- What can be filed passes its checks, and what passes can be filed.
+use Rattle.std.proofs.Common.{◌≡◌, ℕ, ◌+◌, ◌%◌, true, not, eqb, refl, ap, ◌∙◌, arith}
+use Rattle.std.proofs.lemmas.Bool.{and_from, le-leb, le-ltb, ne_eqb, not-false, not_from_true}
+use Rattle.rows.specs.declared.tasks.Numbers.{Numbers}
+use Rattle.rows.specs.declared.tasks.Row.{Row}
+use Rattle.rows.specs.Answers.{gives, checked, first_refusal}
+use Rattle.rows.specs.Counting.{is_on_frame}
+use Rattle.rows.specs.Judging.{plain, frame_flaws, flaw_checks, is_idle, has_no_window, has_late_deadline, has_long_period, is_off_frame}
+use Rattle.rows.specs.Times.{horizon, is_frame}
+use Rattle.rows.proofs.Checks.{first_passes, given_is, passes_on}
+use Rattle.bounds.specs.declared.supplied.Supplied.{Supplied}
+use Rattle.bounds.specs.declared.supplied.Supplied.TheVariants.{ExactSteps as exact, LinearTail as tail}
+use Rattle.bounds.specs.Meaning.{finest, is_accuracy}
+use Rattle.leaves.specs.declared.entries.Heading.{Heading}
+use Rattle.leaves.specs.Headings.{heading_plain, heading_checks, bound_numbers}
+
+-- the numbers of a heading pass their checks
+pub heading_passes : (h : Heading) (at : ℕ) → first_refusal (heading_checks (heading_plain h) at) ≡ gives tt
+heading_passes h at = passes_on (not (is_frame h.frame)) 1 at _ (not_from_true (is_frame h.frame) (and_from _ _ (le-leb 1 h.frame h.low) (le-leb h.frame horizon h.near))) ∙ named h.bound
+  where
+    named : (b : Supplied) → first_refusal (heading_checks (record { frame = 1; bound = (bound_numbers b).0; accuracy = (bound_numbers b).1 }) at) ≡ gives tt
+    named exact = refl
+    named (tail t) = passes_on (not (is_accuracy t.accuracy)) 3 at _ (not_from_true _ (and_from _ _ (le-leb 1 t.accuracy t.low) (le-leb t.accuracy finest t.high)))
+
+-- and so do those of a row on the frame
+pub row_passes : (h : ℕ) (r : Row) (at : ℕ) → is_on_frame h r ≡ true → first_refusal (flaw_checks (frame_flaws h) (plain r) at) ≡ gives tt
+row_passes h r at on =
+    let busy = ne_eqb r.work 0 (λ e. omega (arith, r.busy)) in
+    let roomy = le-ltb r.deadline (r.work + r.jitter) r.roomy in
+    let timely = le-ltb r.period r.deadline r.timely in
+    let near = le-ltb horizon r.period r.near in
+    let off = not_from_true (eqb (h % r.period) 0) on in
+    rw (busy, roomy, timely, near, off)
+
+-- a row that was judged on a frame stands on it
+pub judged_on : (h at : ℕ) (r : Row) (n : Numbers) → gives (plain r) ≡ checked (flaw_checks (frame_flaws h) n at) n → is_on_frame h r ≡ true
+judged_on h at r n given =
+    let same = given_is (flaw_checks (frame_flaws h) n at) (plain r) n given in
+    let busy = first_passes (is_idle n) 4 at (plain r) _ given in
+    let roomy = first_passes (has_no_window n) 5 at (plain r) _ busy.1 in
+    let timely = first_passes (has_late_deadline n) 6 at (plain r) _ roomy.1 in
+    let near = first_passes (has_long_period n) 7 at (plain r) _ timely.1 in
+    ap (λ m. eqb (h % m.period) 0) same ∙ not-false _ (first_passes (is_off_frame h n) 8 at (plain r) _ near.1).0
