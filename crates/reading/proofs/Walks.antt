@@ -1,18 +1,16 @@
 -- A reader on its way through a leaf, and where it stops.
-use Rattle.std.proofs.Common.{◌≡◌, ℕ, ◌<◌, true, List, [], ◌∷◌, ◌++◌, length, None, sym, refl, ap, ◌∙◌, subst, arith}
-use Rattle.std.proofs.lemmas.List.{append-nil, length-append}
+use Rattle.std.proofs.Common.{◌≡◌, ℕ, true, false, List, [], ◌∷◌, ◌++◌, length, is_some, Option, Some, None, sym, refl, ap, ◌∙◌, subst, arith}
+use Rattle.std.proofs.lemmas.List.{append-nil}
 use Rattle.std.proofs.lemmas.Bool.{false≢true}
 use Rattle.rows.specs.Answers.{gives, refuses, first_refusal}
 use Rattle.leaves.specs.declared.entries.Entry.{Entry}
-use Rattle.leaves.specs.declared.entries.Entry.TheVariants.{Heading as heading, Row as row, Finding as finding, End as end}
-use Rattle.leaves.specs.Entries.{entry_bytes}
 use Rattle.leaves.specs.Contents.{Contents, bytes_of}
 use Rattle.reading.specs.declared.phases.Phase.{Phase}
 use Rattle.reading.specs.declared.phases.Phase.TheVariants.{Opening, Rows, Findings, Closed}
 use Rattle.reading.specs.Checks.{next_checks}
 use Rattle.reading.specs.Grammar.{Run, stays}
 use Rattle.reading.specs.Phases.{place_of, is_closed}
-use Rattle.reading.specs.Stepping.{Reading, TakesEntry, Takes}
+use Rattle.reading.specs.Stepping.{Reading, Takes}
 use Rattle.reading.specs.Whole.{IsRefusedAt, Fits}
 use Rattle.reading.proofs.Contents.{closing}
 use Rattle.reading.proofs.Runs.{run_push, bytes_push, run_place}
@@ -29,22 +27,13 @@ read_none bytes = record { before = []; split = refl; run = stays }
 
 module _ (bytes : List ℕ) (here next : Reading) (has : HasRead bytes here) where
   -- it has read one entry more
-  pub read_more : (e : Entry) → TakesEntry here e next → HasRead bytes next
-  read_more e taken = record {
+  pub read_more : (o : Option Entry) → is_some o ≡ true → Takes here o next → HasRead bytes next
+  read_more None none taken = absurd (false≢true none)
+  read_more (Some e) some taken = record {
     before = has.before ++ e ∷ [];
     split = has.split ∙ ap (λ xs. bytes_of has.before ++ xs) taken.split ∙ bytes_push has.before e next.left;
     run = run_push has.run taken.step;
   }
-
-  -- and has fewer bytes left
-  pub fewer_left : (e : Entry) → TakesEntry here e next → length next.left < length here.left
-  fewer_left e taken = omega (arith, ap length taken.split, length-append (entry_bytes e) next.left, some_bytes e)
-    where
-      some_bytes : (e : Entry) → 0 < length (entry_bytes e)
-      some_bytes (heading h) = omega arith
-      some_bytes (row r) = omega arith
-      some_bytes (finding f) = omega arith
-      some_bytes (end k) = omega arith
 
 -- where a check refuses, the refusal fits
 pub read_refused : (bytes : List ℕ) (here : Reading) → HasRead bytes here → (n at : ℕ) → refuses n at ≡ first_refusal (next_checks here.phase (place_of here.phase) here.left) → IsRefusedAt bytes n at
@@ -63,8 +52,9 @@ pub record HasEnded (bytes : List ℕ) (p : Phase) : Type 0 where
   pub fits : Fits bytes (gives contents)
   pub closed : p ≡ Closed contents.heading (length contents.rows)
 
-pub read_ended : (bytes : List ℕ) (here next : Reading) → HasRead bytes here → Takes here None next → HasEnded bytes next.phase
-read_ended bytes here next has taken = subst (λ r. HasEnded bytes r.phase) (sym taken.2) (at here.phase has.run taken.0)
+pub read_ended : (bytes : List ℕ) (here next : Reading) → HasRead bytes here → (o : Option Entry) → is_some o ≡ false → Takes here o next → HasEnded bytes next.phase
+read_ended bytes here next has (Some e) none taken = absurd (false≢true (sym none))
+read_ended bytes here next has None none taken = subst (λ r. HasEnded bytes r.phase) (sym taken.2) (at here.phase has.run taken.0)
   where
     at : (p : Phase) → Run Opening has.before p → is_closed p ≡ true → HasEnded bytes p
     at Opening run closed = absurd (false≢true closed)

@@ -24,7 +24,7 @@ impl<'a> Model for Reader<'a> {
 }
 
 impl<'a> Reader<'a> {
-    ghost use Rattle.std.specs.Prelude.{IsTrue, ◌≡◌, IfOk, IsTrue, OnErr, MatchOption, []};
+    ghost use Rattle.std.specs.Prelude.{IsTrue, ◌≡◌, IfOk, OnErr, MatchOption, []};
     ghost use Rattle.rows.specs.Answers.{refusal, first_refusal};
     ghost use Rattle.reading.specs.Checks.{next_checks};
     ghost use Rattle.reading.specs.Phases.{is_closed, place_of, IsSound};

@@ -28,7 +28,7 @@ pub fn read(bytes: &[u8]) -> Result<Leaf<'_>, Fault>
     ensures parts { IfOk result (ArePartsOf bytes.now) }
 {
     let mut reader = Reader::new(bytes);
-    while let Some(_) = reader.next_entry()? {}
+    while reader.next_entry()?.is_some() {}
     let Phase::Closed { heading, rows } = reader.phase() else {
         unreachable!()
     };

@@ -14,7 +14,7 @@ pub loop-init : goal.loop-init
 loop-init c = subst (HasRead c.args.bytes.now) (sym c.new-reader.ensures) (read_none c.args.bytes.now)
 
 pub loop-preserved : goal.loop-preserved
-loop-preserved c = read_more c.args.bytes.now c.loop.reader c.next_entry.new.self c.loop.invariant c.in-Some.field-0 (rw c.in-Some.is at c.in_ok-next_entry.ensures.taken)
+loop-preserved c = read_more c.args.bytes.now c.loop.reader c.next_entry.new.self c.loop.invariant _ (sym c.if-is_some.ensures) c.in_ok-next_entry.ensures.taken
 
 pub returns-in_err-next_entry : goal.returns-in_err-next_entry
 returns-in_err-next_entry c =
@@ -33,7 +33,7 @@ returns-in_err-next_entry c =
 the_leaf : (c : In-Closed) → IsRead c.args.bytes.now c.in-Closed.heading c.in-Closed.rows
 the_leaf c =
     is_read c.args.bytes.now c.in-Closed.heading c.in-Closed.rows c.next_entry.new.self.phase c.in-Closed.ensures
-    (read_ended c.args.bytes.now c.loop.reader c.next_entry.new.self c.loop.invariant (rw c.in_default.is at c.in_ok-next_entry.ensures.taken))
+    (read_ended c.args.bytes.now c.loop.reader c.next_entry.new.self c.loop.invariant _ (sym c.if-is_some.ensures) c.in_ok-next_entry.ensures.taken)
 
 pub slice_bounds-result-end : goal.slice_bounds-result-end
 slice_bounds-result-end c = let leaf = the_leaf (goal.at.slice_bounds-result-end c).In-Closed in omega (arith, leaf.parts.size, c.place_after-findings_from.ensures)
