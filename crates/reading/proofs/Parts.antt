@@ -1,4 +1,4 @@
--- The parts of a leaf's bytes: the heading, the run of rows, the run of findings, and the end.
+-- The parts of a leaf's bytes: the heading, the rows, the findings, and the end.
 use Rattle.std.proofs.Common.{◌≡◌, ℕ, ◌+◌, ◌-◌, List, [], ◌∷◌, ◌++◌, map, length, take, drop, sym, refl, ap, ◌∙◌, ap₂, arith}
 use Rattle.std.proofs.lemmas.Grind.{flat_map-append}
 use Rattle.std.proofs.lemmas.List.{append_assoc, append-nil, length-append}
@@ -15,7 +15,7 @@ use Rattle.reading.specs.declared.phases.Phase.TheVariants.{Closed}
 use Rattle.reading.specs.Whole.{Fits}
 use Rattle.reading.proofs.Walks.{HasEnded}
 
--- how long the runs are
+-- how long the bytes of rows and of findings are
 rows_length : (rs : List Row) → row_place 0 + length (bytes_of (map row rs)) ≡ row_place (length rs)
 rows_length [] = refl
 rows_length (r ∷ rs) = omega (arith, length-append (entry_bytes (row r)) (bytes_of (map row rs)), rows_length rs)

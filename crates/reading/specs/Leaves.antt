@@ -14,22 +14,22 @@ abbrev pub heading_of : Leaf → Heading
 heading_of leaf = leaf.heading
 
 -- the bytes of its rows, and those of its findings
-abbrev pub row_run : Leaf → List ℕ
-row_run leaf = leaf.rows.now
+abbrev pub row_bytes : Leaf → List ℕ
+row_bytes leaf = leaf.rows.now
 
-abbrev pub finding_run : Leaf → List ℕ
-finding_run leaf = leaf.findings.now
+abbrev pub finding_bytes : Leaf → List ℕ
+finding_bytes leaf = leaf.findings.now
 
--- a leaf holds contents: it has their heading, and its runs are the bytes of their rows and of their findings
+-- a leaf holds contents: it has their heading, the bytes of their rows, and those of their findings
 pub record Holds (leaf : Leaf) (c : Contents) : Type 0 where
   pub head : heading_of leaf ≡ c.heading
-  pub rows : row_run leaf ≡ bytes_of (map row c.rows)
-  pub findings : finding_run leaf ≡ bytes_of (map finding c.findings)
+  pub rows : row_bytes leaf ≡ bytes_of (map row c.rows)
+  pub findings : finding_bytes leaf ≡ bytes_of (map finding c.findings)
 
--- the runs of a leaf stand in the bytes that it was read from, one after the other
+-- the bytes of its rows and those of its findings stand in the bytes that the leaf was read from, one after the other
 abbrev pub ArePartsOf : List ℕ → Leaf → Type 0
 ArePartsOf bytes leaf =
-    (end : List ℕ) × (bytes ≡ entry_bytes (heading (heading_of leaf)) ++ (row_run leaf ++ (finding_run leaf ++ end)))
+    (end : List ℕ) × (bytes ≡ entry_bytes (heading (heading_of leaf)) ++ (row_bytes leaf ++ (finding_bytes leaf ++ end)))
 
 -- what reading answers is the answer: a leaf that holds the contents, or the refusal by its number and place
 abbrev pub Reads : Result Leaf Fault → Answer Contents → Type 0

@@ -10,8 +10,8 @@ use crate::readers::Reader;
 use leaves::Heading;
 use rows::Fault;
 
-/// A leaf that was read: its heading, and the runs of its rows and of its findings, which are parts
-/// of the bytes that it was read from.
+/// A leaf that was read: its heading, the bytes of its rows and those of its findings, which are
+/// parts of the bytes that it was read from.
 #[derive(Clone, Copy)]
 pub struct Leaf<'a> {
     heading: Heading,
