@@ -2,8 +2,8 @@
 use Rattle.std.proofs.Common.{◌≡◌, ℕ, ◌+◌, Bool, true, false, ltb, List, [], ◌∷◌, ◌++◌, length, Some, None, Option, refl, ap, ◌∙◌, arith, if◌then◌else◌, position}
 use Rattle.std.specs.Option.{option_map}
 use Rattle.std.specs.List.{All, position_or_len}
-use Rattle.std.proofs.lemmas.List.Sums.{fails_before_first}
-use Rattle.std.proofs.lemmas.Bool.{ltb-false}
+use Rattle.std.proofs.lemmas.List.Sums.{fails_before_first, position_or_len_is}
+use Rattle.std.proofs.lemmas.Bool.{cond-false, le-ltb, ltb-false}
 use Rattle.std.proofs.lemmas.List.{append-nil}
 use Rattle.rows.specs.Answers.{Answer, gives, refuses, refuses_at, Check, checked}
 
@@ -17,19 +17,33 @@ pub first_passes : {A : Type 0} (wrong : Bool) (refusal at : ℕ) (x : A) (other
 first_passes true refusal at x others given = cc
 first_passes false refusal at x others given = (refl, given)
 
--- nor is any place of the list that it checks
-pub each_passes : {A X : Type 0} (wrong : X → Bool) (xs : List X) (refusal : ℕ) (x : A) (others : Answer A) → gives x ≡ refuses_at refusal (option_map (λ i. i + 1) (position wrong xs)) others → All (λ y. wrong y ≡ false) xs × (gives x ≡ others)
-each_passes wrong xs refusal x others given =
-    let first = nothing_told refusal (option_map (λ i. i + 1) (position wrong xs)) x others given in
+-- nor is any element of the list that it checks
+pub places_pass : {A X : Type 0} (wrong : X → Bool) (place : ℕ → ℕ) (xs : List X) (refusal : ℕ) (x : A) (others : Answer A) → gives x ≡ refuses_at refusal (option_map place (position wrong xs)) others → All (λ y. wrong y ≡ false) xs × (gives x ≡ others)
+places_pass wrong place xs refusal x others given =
+    let first = nothing_told refusal (option_map place (position wrong xs)) x others given in
     (at (ltb (position_or_len wrong xs) (length xs)) refl first.0, first.1)
   where
-    at : (b : Bool) → ltb (position_or_len wrong xs) (length xs) ≡ b → option_map (λ i. i + 1) (if b then Some (position_or_len wrong xs) else None) ≡ None → All (λ y. wrong y ≡ false) xs
+    at : (b : Bool) → ltb (position_or_len wrong xs) (length xs) ≡ b → option_map place (if b then Some (position_or_len wrong xs) else None) ≡ None → All (λ y. wrong y ≡ false) xs
     at true found none = cc
     at false found none = λ k d within. fails_before_first wrong xs k d (omega (arith, ltb-false (position_or_len wrong xs) (length xs) found))
+
+-- and so where it tells ranks
+pub each_passes : {A X : Type 0} (wrong : X → Bool) (xs : List X) (refusal : ℕ) (x : A) (others : Answer A) → gives x ≡ refuses_at refusal (option_map (λ i. i + 1) (position wrong xs)) others → All (λ y. wrong y ≡ false) xs × (gives x ≡ others)
+each_passes wrong xs = places_pass wrong (λ i. i + 1) xs
 
 -- where nothing is wrong, a check leaves the answer to others
 pub passes_on : {A : Type 0} (wrong : Bool) (refusal at : ℕ) (others : Answer A) → wrong ≡ false → refuses_at refusal (if wrong then Some at else None) others ≡ others
 passes_on wrong refusal at others right = rw right
+
+-- and so does a check of a list in which nothing is
+pub places_pass_on : {A X : Type 0} (wrong : X → Bool) (place : ℕ → ℕ) (xs : List X) (refusal : ℕ) (others : Answer A) → All (λ y. wrong y ≡ false) xs → refuses_at refusal (option_map place (position wrong xs)) others ≡ others
+places_pass_on {X = X} wrong place xs refusal others right = ap (λ o. refuses_at refusal (option_map place o) others) (nowhere xs right)
+  where
+    nowhere : (xs : List X) → All (λ y. wrong y ≡ false) xs → position wrong xs ≡ None
+    nowhere [] right = refl
+    nowhere (x ∷ xs) right =
+        let all = position_or_len_is wrong (x ∷ xs) (length (x ∷ xs)) x (omega arith) (λ k. right k x) (λ beyond. absurd (omega (arith, beyond))) in
+        cond-false (ltb (position_or_len wrong (x ∷ xs)) (length (x ∷ xs))) (Some (position_or_len wrong (x ∷ xs))) None (le-ltb (position_or_len wrong (x ∷ xs)) (length (x ∷ xs)) (omega (arith, all)))
 
 -- where a value is given, it is the one that was to be given
 pub given_is : {A : Type 0} (cs : List Check) (x y : A) → gives x ≡ checked cs y → x ≡ y

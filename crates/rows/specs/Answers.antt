@@ -27,9 +27,14 @@ pub record Check : Type 0 where
 abbrev pub check : Bool → ℕ → ℕ → Check
 check wrong refusal at = record { refusal = refusal; at = if wrong then Some at else None }
 
--- a check of every place of a list: it tells the first place that is wrong, counted from 1
+-- a check of every element of a list: of the first that is wrong it tells the position of its place, places being
+-- counted from 0
+abbrev pub check_places : {X : Type 0} → (X → Bool) → ℕ → (ℕ → ℕ) → List X → Check
+check_places wrong refusal at xs = record { refusal = refusal; at = option_map at (position wrong xs) }
+
+-- the same, told by rank: the first element has rank 1
 abbrev pub check_each : {X : Type 0} → (X → Bool) → ℕ → List X → Check
-check_each wrong refusal xs = record { refusal = refusal; at = option_map (λ i. i + 1) (position wrong xs) }
+check_each wrong refusal xs = check_places wrong refusal (λ i. i + 1) xs
 
 -- a refusal, where there is a position to tell; else another answer
 abbrev pub refuses_at : {A : Type 0} → ℕ → Option ℕ → Answer A → Answer A

@@ -1,5 +1,15 @@
--- What is said of lists that a call fills in part.
-use Rattle.std.specs.Prelude.{◌≡◌, ℕ, ◌+◌, ◌<◌, ◌≤◌, ◌⊎◌, List, ◌++◌, length, take, drop, slice_index_or}
+-- What is said of lists: the element at a rank, and lists that a call fills in part.
+use Rattle.std.specs.Prelude.{◌≡◌, ℕ, zero, suc, ◌+◌, ◌<◌, ◌≤◌, ◌⊎◌, List, [], ◌∷◌, ◌++◌, length, take, drop, Some, None, Option, slice_index_or}
+
+-- the first element of a list, if there is one
+abbrev pub first_of : {X : Type 0} → List X → Option X
+first_of [] = None
+first_of (x ∷ xs) = Some x
+
+-- the element at a rank, the first having rank 1: none at 0 and past the last
+abbrev pub at_rank : {X : Type 0} → ℕ → List X → Option X
+at_rank zero xs = None
+at_rank (suc i) xs = first_of (drop i xs)
 
 -- a list with new elements written over it from place i on: the places before i and those past the new elements stay
 abbrev pub written : {X : Type 0} → List X → ℕ → List X → List X
