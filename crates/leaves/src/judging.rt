@@ -5,7 +5,7 @@ ghost use Rattle.leaves.specs.Headings.{bound_checks, heading_checks, heading_pl
 ghost use Rattle.leaves.specs.Judging.{finding_checks};
 
 use crate::entries::{Heading, HeadingNumbers};
-use bounds::{LinearTail, Supplied};
+use bounds::{Bound, LinearTail, Supplied};
 use rows::{Fault, HORIZON, Refusal, is_frame};
 use verdicts::{Finding, Verdict};
 
@@ -39,6 +39,24 @@ impl HeadingNumbers {
                 Err(fault) => Err(fault.refusal.at(at)),
             },
             _ => Err(Refusal::UnknownBound.at(at)),
+        }
+    }
+}
+
+impl Heading {
+    /// The plain numbers of the heading: the frame, the bound by its number (0 exact steps, 1 linear
+    /// tail), and the accuracy of the linear tail, 0 for exact steps (docs/FORMAT.md, Entries).
+    pub fn numbers(&self) -> HeadingNumbers
+        ensures { result ≡ heading_plain self.now }
+    {
+        let (bound, accuracy) = match self.bound {
+            Supplied::ExactSteps => (0, 0),
+            Supplied::LinearTail(tail) => (1, tail.accuracy() as u8),
+        };
+        HeadingNumbers {
+            frame: self.frame,
+            bound,
+            accuracy,
         }
     }
 }

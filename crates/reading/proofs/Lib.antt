@@ -4,4 +4,6 @@ pub mod Runs
 pub mod Contents
 pub mod Once
 pub mod Walks
+pub mod Ranks
+pub mod Told
 pub mod Parts

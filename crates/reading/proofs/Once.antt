@@ -1,8 +1,7 @@
 -- At most one answer fits a string of bytes.
-use Rattle.std.proofs.Common.{refl, ◌≡◌, ℕ, List, [], ◌++◌, length, sym, ap, ◌∙◌, ap₂, subst, Result, true, Some, None}
+use Rattle.std.proofs.Common.{refl, ◌≡◌, ℕ, List, [], ◌++◌, length, sym, ap, ◌∙◌, ap₂, subst, true, Some, None}
 use Rattle.std.proofs.lemmas.Bool.{false≢true}
 use Rattle.std.proofs.lemmas.List.{append-nil}
-use Rattle.rows.specs.declared.refusals.Fault.{Fault}
 use Rattle.rows.specs.Answers.{Answer, gives, refuses, first_refusal}
 use Rattle.leaves.specs.declared.entries.Entry.{Entry}
 use Rattle.leaves.specs.Contents.{Contents, entries, bytes_of, encoding}
@@ -13,8 +12,6 @@ use Rattle.reading.specs.Grammar.{Step, Run}
 use Rattle.reading.specs.Phases.{is_closed, IsSound}
 use Rattle.reading.specs.Stepping.{Reading, reading, TakesOnce}
 use Rattle.reading.specs.Whole.{IsRefusedAt, Fits, FitsOnce}
-use Rattle.reading.specs.declared.whole.Leaf.{Leaf}
-use Rattle.reading.specs.Leaves.{Reads}
 use Rattle.reading.proofs.Steps.{opening_sound, step_passes, step_once, closed_stuck}
 use Rattle.reading.proofs.Runs.{run_sound, IsStuck, run_once}
 use Rattle.reading.proofs.Contents.{lawful_run, same_contents}
@@ -70,6 +67,6 @@ fits_once bytes (refuses n at) (refuses m to) fits also =
     let moved = ap (λ n. first_refusal (next_checks fits.phase n fits.left)) place ∙ ap₂ (λ p xs. first_refusal (next_checks p (length (bytes_of also.before)) xs)) both.1 both.2 in
     again n at m to (sym fits.fails ∙ moved ∙ also.fails)
 
--- so what reading answers for one that fits, it answers for each
-pub reads_each : (bytes : List ℕ) (r : Result Leaf Fault) (a : Answer Contents) → Fits bytes a → Reads r a → (b : Answer Contents) → Fits bytes b → Reads r b
-reads_each bytes r a fits reads b also = subst (Reads r) (fits_once bytes a b fits also) reads
+-- so what is said of one that fits is said of each
+pub said_of_each : (P : Answer Contents → Type 0) (bytes : List ℕ) (a : Answer Contents) → Fits bytes a → P a → (b : Answer Contents) → Fits bytes b → P b
+said_of_each P bytes a fits said b also = subst P (fits_once bytes a b fits also) said

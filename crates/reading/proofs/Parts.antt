@@ -3,26 +3,17 @@ use Rattle.std.proofs.Common.{◌≡◌, ℕ, ◌+◌, ◌-◌, List, [], ◌∷
 use Rattle.std.proofs.lemmas.Grind.{flat_map-append}
 use Rattle.std.proofs.lemmas.List.{append_assoc, append-nil, length-append}
 use Rattle.std.proofs.Math.Seq.{drop-append_seam, take-append_seam}
-use Rattle.rows.specs.declared.tasks.Row.{Row}
 use Rattle.rows.specs.Answers.{gives}
-use Rattle.verdicts.specs.declared.verdicts.Finding.{Finding}
 use Rattle.leaves.specs.declared.entries.Heading.{Heading}
 use Rattle.leaves.specs.declared.entries.Entry.TheVariants.{Heading as heading, Row as row, Finding as finding, End as end}
 use Rattle.leaves.specs.Entries.{entry_bytes, row_place, finding_place, leaf_length}
 use Rattle.leaves.specs.Contents.{Contents, bytes_of}
 use Rattle.reading.specs.declared.phases.Phase.{Phase}
 use Rattle.reading.specs.declared.phases.Phase.TheVariants.{Closed}
+use Rattle.reading.specs.Held.{HoldContents}
 use Rattle.reading.specs.Whole.{Fits}
+use Rattle.reading.proofs.Ranks.{rows_length, findings_length}
 use Rattle.reading.proofs.Walks.{HasEnded}
-
--- how long the bytes of rows and of findings are
-rows_length : (rs : List Row) → row_place 0 + length (bytes_of (map row rs)) ≡ row_place (length rs)
-rows_length [] = refl
-rows_length (r ∷ rs) = omega (arith, length-append (entry_bytes (row r)) (bytes_of (map row rs)), rows_length rs)
-
-findings_length : (n : ℕ) (fs : List Finding) → row_place n + length (bytes_of (map finding fs)) ≡ finding_place n (length fs)
-findings_length n [] = omega arith
-findings_length n (f ∷ fs) = omega (arith, length-append (entry_bytes (finding f)) (bytes_of (map finding fs)), findings_length n fs)
 
 -- the bytes of contents, part by part
 split_entries : (c : Contents) (n : ℕ) → bytes_of (map row c.rows ++ (map finding c.findings ++ end n ∷ [])) ≡ bytes_of (map row c.rows) ++ (bytes_of (map finding c.findings) ++ entry_bytes (end n))
@@ -52,7 +43,7 @@ in_parts bytes c n fits rows =
     let parts : bytes ≡ head ++ (rs ++ (fs ++ last)) = fits.1 ∙ ap (λ xs. head ++ xs) (split_entries c (1 + length c.rows + length c.findings)) in
     let long = rows_length c.rows in
     let even = fits.0.even in
-    let deep = findings_length n c.findings in
+    let deep = findings_length c.findings in
     record {
       size = ap length parts ∙ omega (arith, length-append rs (fs ++ last), length-append fs last);
       rows = ap (λ xs. take (row_place n - row_place 0) (drop (row_place 0) xs)) parts ∙ middle head rs (fs ++ last) (row_place 0) (row_place n) refl (omega arith);
@@ -76,12 +67,20 @@ is_read bytes h n p closed ended =
     let total : n ≡ length c.rows = cc in
     record { contents = c; fits = ended.fits; head = head; parts = in_parts bytes c n ended.fits total }
 
--- its parts stand in the bytes
-pub stand_in : {bytes : List ℕ} {h : Heading} {n : ℕ} → IsRead bytes h n → (rs fs : List ℕ) → rs ≡ take (row_place n - row_place 0) (drop (row_place 0) bytes) → fs ≡ take (finding_place n n - row_place n) (drop (row_place n) bytes)
-    → (last : List ℕ) × (bytes ≡ entry_bytes (heading h) ++ (rs ++ (fs ++ last)))
-stand_in {h = h} is rs fs rows findings =
-    let last = is.parts.split.0 in (
-      last,
-      is.parts.split.1 ∙ ap (λ g. entry_bytes (heading g) ++ (bytes_of (map row is.contents.rows) ++ (bytes_of (map finding is.contents.findings) ++ last))) (sym is.head)
-          ∙ ap₂ (λ xs ys. entry_bytes (heading h) ++ (xs ++ (ys ++ last))) (sym (rows ∙ is.parts.rows)) (sym (findings ∙ is.parts.findings)),
-    )
+module _ {bytes : List ℕ} {h : Heading} {n : ℕ} (is : IsRead bytes h n) where
+  -- from place to place its parts hold the contents
+  pub hold_contents : {i j k : ℕ} → i ≡ finding_place 0 0 → j ≡ finding_place n 0 → k ≡ finding_place n n → HoldContents h (take (j - i) (drop i bytes)) (take (k - j) (drop j bytes)) is.contents
+  hold_contents {j = j} rows_from findings_from findings_to =
+      let middle : j ≡ row_place n = omega (arith, findings_from) in
+      record {
+        head = is.head;
+        rows = ap₂ (λ i j. take (j - i) (drop i bytes)) rows_from middle ∙ is.parts.rows;
+        findings = ap₂ (λ j k. take (k - j) (drop j bytes)) middle findings_to ∙ is.parts.findings;
+        lawful = is.fits.0;
+      }
+
+  -- and stand in the bytes
+  pub stand_in : {rs fs : List ℕ} → HoldContents h rs fs is.contents → (last : List ℕ) × (bytes ≡ entry_bytes (heading h) ++ (rs ++ (fs ++ last)))
+  stand_in parts =
+      let last = is.parts.split.0 in
+      (last, is.parts.split.1 ∙ rw (sym parts.head, sym parts.rows, sym parts.findings) refl)

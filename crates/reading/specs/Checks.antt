@@ -19,6 +19,18 @@ is_kind k = k == letter_F || (k == letter_R || (k == letter_A || k == letter_Z))
 abbrev pub cut : ℕ → ℕ → List ℕ → Check
 cut size at body = check (nat_lt (length body) size) 13 (at + 1 + length body)
 
+-- no room for another row: full table
+abbrev pub full_table_check : ℕ → ℕ → Check
+full_table_check rows at = check (nat_le most_rows rows) 9 at
+
+-- no row is left for another finding: miscount
+abbrev pub surplus_check : ℕ → ℕ → ℕ → Check
+surplus_check rows findings at = check (nat_le rows findings) 16 at
+
+-- fewer findings than rows have come: miscount
+abbrev pub missing_check : ℕ → ℕ → ℕ → Check
+missing_check rows findings at = check (nat_lt findings rows) 16 at
+
 -- F: cut leaf; then its numbers
 abbrev pub heading_entry_checks : ℕ → List ℕ → List Check
 heading_entry_checks at body = cut heading_size at body ∷ heading_checks (heading_fields body) at
@@ -26,21 +38,21 @@ heading_entry_checks at body = cut heading_size at body ∷ heading_checks (head
 -- R on a frame, after so many rows: full table, cut leaf; then its numbers
 abbrev pub row_entry_checks : ℕ → ℕ → ℕ → List ℕ → List Check
 row_entry_checks h rows at body =
-    check (nat_le most_rows rows) 9 at
+    full_table_check rows at
     ∷ cut row_size at body
     ∷ flaw_checks (frame_flaws h) (row_fields body) at
 
 -- A after so many rows and findings: miscount, cut leaf; then the finding
 abbrev pub finding_entry_checks : ℕ → ℕ → ℕ → List ℕ → List Check
 finding_entry_checks rows findings at body =
-    check (nat_le rows findings) 16 at
+    surplus_check rows findings at
     ∷ cut finding_size at body
     ∷ finding_checks (finding_fields body) at
 
 -- Z after so many rows and findings: miscount, cut leaf; then its number
 abbrev pub end_entry_checks : ℕ → ℕ → ℕ → List ℕ → List Check
 end_entry_checks rows findings at body =
-    check (nat_lt findings rows) 16 at
+    missing_check rows findings at
     ∷ cut end_size at body
     ∷ check (not (number_at 0 body == 1 + rows + findings)) 16 at
     ∷ []

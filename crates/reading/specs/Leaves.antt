@@ -1,13 +1,14 @@
 -- What a leaf that was read holds.
-use Rattle.std.specs.Prelude.{◌≡◌, ℕ, List, ◌++◌, map, Ok, Err, Result}
+use Rattle.std.specs.Prelude.{◌≡◌, ℕ, List, ◌++◌, Ok, Err, Result}
 use Rattle.rows.specs.declared.refusals.Fault.{Fault}
 use Rattle.rows.specs.Answers.{Answer, gives, refuses}
 use Rattle.rows.specs.Refusals.{number}
 use Rattle.leaves.specs.declared.entries.Heading.{Heading}
-use Rattle.leaves.specs.declared.entries.Entry.TheVariants.{Heading as heading, Row as row, Finding as finding}
+use Rattle.leaves.specs.declared.entries.Entry.TheVariants.{Heading as heading}
 use Rattle.leaves.specs.Entries.{entry_bytes}
-use Rattle.leaves.specs.Contents.{Contents, bytes_of}
-use Rattle.reading.specs.declared.whole.Leaf.{Leaf}
+use Rattle.leaves.specs.Contents.{Contents}
+use Rattle.reading.specs.declared.held.Leaf.{Leaf}
+use Rattle.reading.specs.Held.{HoldContents, HoldSomeContents}
 
 -- the heading of a leaf that was read
 abbrev pub heading_of : Leaf → Heading
@@ -20,11 +21,13 @@ row_bytes leaf = leaf.rows.now
 abbrev pub finding_bytes : Leaf → List ℕ
 finding_bytes leaf = leaf.findings.now
 
--- a leaf holds contents: it has their heading, the bytes of their rows, and those of their findings
-pub record Holds (leaf : Leaf) (c : Contents) : Type 0 where
-  pub head : heading_of leaf ≡ c.heading
-  pub rows : row_bytes leaf ≡ bytes_of (map row c.rows)
-  pub findings : finding_bytes leaf ≡ bytes_of (map finding c.findings)
+-- a leaf holds contents: they are lawful, and it has their heading, the bytes of their rows, and those of their findings
+abbrev pub Holds : Leaf → Contents → Type 0
+Holds leaf c = HoldContents (heading_of leaf) (row_bytes leaf) (finding_bytes leaf) c
+
+-- a leaf holds some contents: so what is said of all that it holds is said of something
+abbrev pub HoldsSome : Leaf → Type 0
+HoldsSome leaf = HoldSomeContents (heading_of leaf) (row_bytes leaf) (finding_bytes leaf)
 
 -- the bytes of its rows and those of its findings stand in the bytes that the leaf was read from, one after the other
 abbrev pub ArePartsOf : List ℕ → Leaf → Type 0

@@ -3,4 +3,6 @@ pub mod Grammar
 pub mod Checks
 pub mod Stepping
 pub mod Whole
+pub mod Bodies
+pub mod Held
 pub mod Leaves

@@ -1,5 +1,5 @@
 -- One step of a reader.
-use Rattle.std.specs.Prelude.{IsTrue, ◌≡◌, ℕ, List, [], ◌++◌, Some, None, Option}
+use Rattle.std.specs.Prelude.{IsTrue, ◌≡◌, ℕ, List, [], ◌∷◌, ◌++◌, Some, None, Option}
 use Rattle.leaves.specs.declared.entries.Entry.{Entry}
 use Rattle.leaves.specs.Entries.{entry_bytes}
 use Rattle.reading.specs.declared.phases.Phase.{Phase}
@@ -29,3 +29,9 @@ Takes old None new = IsTrue (is_closed old.phase) × (old.left ≡ []) × (new �
 abbrev pub TakesOnce : Reading → Type 0
 TakesOnce old =
     (a b : Option Entry) (new other : Reading) → Takes old a new → Takes old b other → (a ≡ b) × (new ≡ other)
+
+-- entries are taken, one after the other
+pub data TakesAll : Reading → List Entry → Reading → Type 0 where
+  ends : {old : Reading} → TakesAll old [] old
+  takes : {old here new : Reading} {e : Entry} {es : List Entry}
+      → TakesEntry old e here → TakesAll here es new → TakesAll old (e ∷ es) new

@@ -1,12 +1,17 @@
 // The bodies of entries: their fields, and the bytes that they take.
-ghost use Rattle.std.specs.Prelude.{◌≡◌, ◌+◌, ◌^◌, ◌<◌, ◌≤◌, ◌∷◌, [], ◌++◌, length, drop, OnOk};
+ghost use Rattle.std.specs.Prelude.{◌≡◌, ◌+◌, ◌^◌, ◌<◌, ◌≤◌, ◌∷◌, [], ◌++◌, List, length, drop, OnOk, IfSome};
+ghost use Rattle.std.specs.Option.{option_map};
 ghost use Rattle.rows.specs.Answers.{refusal, first_refusal};
 ghost use Rattle.rows.specs.Judging.{plain};
+ghost use Rattle.rows.specs.Lists.{at_rank};
 ghost use Rattle.rows.specs.Times.{horizon};
 ghost use Rattle.verdicts.specs.Found.{tells};
+ghost use Rattle.leaves.specs.declared.entries.Entry.{Entry};
+ghost use Rattle.leaves.specs.Contents.{bytes_of};
 ghost use Rattle.leaves.specs.Bytes.{four, number_at};
 ghost use Rattle.leaves.specs.Entries.{heading_body, row_body, finding_body, heading_size, row_size, finding_size};
 ghost use Rattle.leaves.specs.Fields.{heading_fields, row_fields, finding_fields};
+ghost use Rattle.reading.specs.Bodies.{body_of, AreOfSize};
 ghost use Rattle.reading.specs.Checks.{cut};
 
 use leaves::HeadingNumbers;
@@ -24,6 +29,18 @@ pub(crate) fn check_length(body: &[u8], at: u32, size: usize) -> Result<(), Faul
         return Err(Refusal::CutLeaf.at(at + 1 + body.len() as u32));
     }
     Ok(())
+}
+
+// The body of the entry at a rank, the first having rank 1, among entries whose bodies are all of
+// one size: none at rank 0 and past the last.
+pub(crate) fn body_at(entries: &[u8], size: usize, rank: usize) -> Option<&[u8]>
+    requires { size ≤ row_size }
+    ensures body { (es : List Entry) → AreOfSize size es → entries.now ≡ bytes_of es →
+        option_map (λ b. b.now) result ≡ option_map body_of (at_rank rank es) }
+    ensures sized { IfSome result (λ b. length b.now ≡ size) }
+{
+    let from = rank.checked_sub(1)?.checked_mul(1 + size)?;
+    entries.get(from..)?.get(1..1 + size)
 }
 
 // The number in the four bytes from a place on.

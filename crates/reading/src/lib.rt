@@ -1,12 +1,14 @@
-//! Leaves read from bytes, entry by entry and whole.
+//! Leaves read from bytes, entry by entry and whole, and what they hold.
 #![tactic(auto)]
 
 mod bodies;
 mod entries;
+mod held;
 mod phases;
 mod readers;
 mod whole;
 
+pub use held::Leaf;
 pub use phases::Phase;
 pub use readers::Reader;
-pub use whole::{Leaf, read};
+pub use whole::read;

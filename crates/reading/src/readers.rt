@@ -1,7 +1,7 @@
 // A reader of leaves.
 use crate::entries::{Taken, end_entry, finding_entry, heading_entry, row_entry};
-use crate::phases::{Phase, place_after};
-use leaves::{END_SIZE, Entry};
+use crate::phases::Phase;
+use leaves::Entry;
 use rows::{Fault, Refusal};
 use std::marker::Model;
 
@@ -46,12 +46,7 @@ impl<'a> Reader<'a> {
         ensures answered { result ≡ place_of self.now.phase }
         ensures sound { IsSound self.now.phase }
     {
-        match self.phase {
-            Phase::Opening => 0,
-            Phase::Rows { rows, .. } => place_after(rows, 0),
-            Phase::Findings { rows, findings, .. } => place_after(rows, findings),
-            Phase::Closed { rows, .. } => place_after(rows, rows) + 1 + END_SIZE as u32,
-        }
+        self.phase.place()
     }
 
     /// How far the leaf has been read.

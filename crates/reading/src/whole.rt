@@ -5,19 +5,10 @@ ghost use Rattle.leaves.specs.Contents.{Contents};
 ghost use Rattle.reading.specs.Whole.{Fits, FitsOnce};
 ghost use Rattle.reading.specs.Leaves.{ArePartsOf, Reads};
 
+use crate::held::Leaf;
 use crate::phases::{Phase, place_after};
 use crate::readers::Reader;
-use leaves::Heading;
 use rows::Fault;
-
-/// A leaf that was read: its heading, the bytes of its rows and those of its findings, which are
-/// parts of the bytes that it was read from.
-#[derive(Clone, Copy)]
-pub struct Leaf<'a> {
-    heading: Heading,
-    rows: &'a [u8],
-    findings: &'a [u8],
-}
 
 /// The leaf that the bytes are, or the first check that fails, with its place (docs/FORMAT.md has
 /// the format and the order of the checks). Every string of bytes has exactly one answer.

@@ -1,11 +1,9 @@
-use Rattle.std.proofs.Common.{◌≡◌, ◌-◌, take, drop, Ok, Err, sym, refl, ap₂, ◌∙◌, subst, arith}
+use Rattle.std.proofs.Common.{sym, refl, subst, arith}
 use Rattle.std.proofs.lemmas.Result.{err_from_is_err_and}
 use Rattle.rows.specs.Answers.{gives, refuses}
 use Rattle.rows.specs.Refusals.{number}
-use Rattle.leaves.specs.Entries.{row_place, finding_place}
-use Rattle.reading.specs.Leaves.{Holds}
-use Rattle.reading.proofs.Once.{fits_once, reads_each}
-use Rattle.reading.proofs.Parts.{IsRead, is_read, stand_in}
+use Rattle.reading.proofs.Once.{fits_once, said_of_each}
+use Rattle.reading.proofs.Parts.{IsRead, is_read, hold_contents, stand_in}
 use Rattle.reading.proofs.Walks.{HasRead, read_none, read_more, read_refused, read_ended}
 use Rattle.reading.proofs.whole.read.Goals as goal
 use Rattle.reading.proofs.whole.read.Goals.{In-Closed}
@@ -24,7 +22,7 @@ returns-in_err-next_entry c =
     let refused = read_refused bytes c.loop.reader c.loop.invariant (number fault.refusal) fault.at c.in_err-next_entry.ensures.answered in
     rw (p.1, p.2) (record {
       fits = (refuses (number fault.refusal) fault.at, refused, (refl, refl));
-      only = reads_each bytes (Err fault) (refuses (number fault.refusal) fault.at) refused (refl, refl);
+      only = said_of_each _ bytes (refuses (number fault.refusal) fault.at) refused (refl, refl);
       once = fits_once;
       parts = tt;
     })
@@ -41,20 +39,19 @@ slice_bounds-result-end c = let leaf = the_leaf (goal.at.slice_bounds-result-end
 pub slice_bounds-result-end-2 : goal.slice_bounds-result-end-2
 slice_bounds-result-end-2 c = let leaf = the_leaf (goal.at.slice_bounds-result-end-2 c).In-Closed in omega (arith, leaf.parts.size, c.place_after-findings_to.ensures)
 
+pub invariant_of-result : goal.invariant_of-result
+invariant_of-result c =
+    let leaf = the_leaf (goal.at.invariant_of-result c).In-Closed in
+    let parts = hold_contents leaf c.place_after-rows_from.ensures c.place_after-findings_from.ensures c.place_after-findings_to.ensures in
+    record { held = ∣ (leaf.contents, parts) ∣₁ }
+
 pub returns : goal.returns
 returns c =
-    let bytes = c.args.bytes.now in
     let leaf = the_leaf (goal.at.returns c).In-Closed in
-    let n = c.in-Closed.rows in
-    let from : c.place_after-findings_from.result ≡ row_place n = omega (arith, c.place_after-findings_from.ensures) in
-    let rows : take (c.place_after-findings_from.result - c.place_after-rows_from.result) (drop c.place_after-rows_from.result bytes) ≡ take (row_place n - row_place 0) (drop (row_place 0) bytes) =
-    ap₂ (λ i j. take (j - i) (drop i bytes)) c.place_after-rows_from.ensures from in
-    let findings : take (c.place_after-findings_to.result - c.place_after-findings_from.result) (drop c.place_after-findings_from.result bytes) ≡ take (finding_place n n - row_place n) (drop (row_place n) bytes) =
-    ap₂ (λ i j. take (j - i) (drop i bytes)) from c.place_after-findings_to.ensures in
-    let holds : Holds _ leaf.contents = record { head = leaf.head; rows = rows ∙ leaf.parts.rows; findings = findings ∙ leaf.parts.findings } in
+    let parts = hold_contents leaf c.place_after-rows_from.ensures c.place_after-findings_from.ensures c.place_after-findings_to.ensures in
     record {
-      fits = (gives leaf.contents, leaf.fits, holds);
-      only = reads_each bytes (Ok _) (gives leaf.contents) leaf.fits holds;
+      fits = (gives leaf.contents, leaf.fits, parts);
+      only = said_of_each _ c.args.bytes.now (gives leaf.contents) leaf.fits parts;
       once = fits_once;
-      parts = stand_in leaf _ _ rows findings;
+      parts = stand_in leaf parts;
     }
