@@ -1,0 +1,11 @@
+-- What closing a leaf answers.
+use Rattle.std.specs.Prelude.{Ok, Err, Result}
+use Rattle.rows.specs.Answers.{Answer, gives, refuses}
+use Rattle.rows.specs.Refusals.{number}
+use Rattle.writing.specs.declared.closed.ClosedLeaf.{ClosedLeaf}
+use Rattle.writing.specs.declared.closed.Unclosed.{Unclosed}
+
+-- that there is no refusal, or the refusal of the fault that the leaf is given back with
+abbrev pub closing : Result ClosedLeaf Unclosed → Answer (Unit {0})
+closing (Ok leaf) = gives tt
+closing (Err u) = refuses (number u.fault.refusal) u.fault.at

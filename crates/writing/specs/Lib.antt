@@ -1,0 +1,5 @@
+pub mod Checks
+pub mod States
+pub mod Filing
+pub mod Closing
+pub mod Whole
