@@ -1,10 +1,18 @@
 """Makes the vectors of leaves: strings of bytes, each with the answer that docs/FORMAT.md gives it.
 
     python3 reference/leaf_vectors.py > vectors
+    python3 reference/leaf_vectors.py --counts > counts
 
-One vector to a line: the bytes in uppercase hexadecimal (nothing where there is no byte), one space, and the
-answer as reference/leaves.py tells it. The same lines come each time. How many there are of each answer is
-told on standard error.
+A line tells a vector, or several with one answer. One space stands between two words, and the answer, as
+reference/leaves.py tells it, ends the line:
+
+    HEX ANSWER                      the bytes in uppercase hexadecimal (nothing where there is no byte)
+    cut LENGTH ANSWER               the first LENGTH of the bytes that were last written in hexadecimal
+    change OFFSET FIRST-LAST ANSWER those bytes with the byte at OFFSET changed to each value from FIRST to
+                                    LAST, which are in hexadecimal
+
+The same lines come each time. With --counts the script prints instead how many vectors there are of each kind
+of answer, in the words of a program with which they all agree.
 
 Where this file names the answer to a vector, it was taken from docs/FORMAT.md by hand, and the reader is held
 to it.
@@ -17,6 +25,7 @@ sys.dont_write_bytecode = True  # leave no cache beside the sources
 
 from leaves import (  # noqa: E402
     HORIZON,
+    LENGTH,
     answer_text,
     four_bytes,
     read_leaf,
@@ -30,11 +39,32 @@ from leaves import (  # noqa: E402
 TOP = 4_294_967_295  # the largest number of 32 bits
 HALF = 2_147_483_648  # the least that would be negative if it had a sign
 
+# The refusals that reading gives, by their numbers, with their words in docs/REFUSALS.md.
+REFUSALS = {
+    1: 'bad frame',
+    3: 'bad accuracy',
+    4: 'idle row',
+    5: 'no window',
+    6: 'late deadline',
+    7: 'long period',
+    8: 'off frame',
+    9: 'full table',
+    13: 'cut leaf',
+    14: 'strange letter',
+    15: 'out of turn',
+    16: 'miscount',
+    17: 'bad finding',
+    18: 'loose bytes',
+    20: 'unknown bound',
+}
+
 vectors = {}  # bytes to answer text, in the order in which they were added; none comes two times
+damages = []  # lines about leaves cut and changed, after those of `vectors`
+counts = {}  # how many vectors there are of each kind of answer
 
 
-def add(data, expected=None):
-    """Adds a vector; `expected` is its answer text where that is known beforehand."""
+def answer_of(data, expected=None):
+    """The answer text of the bytes; `expected` is that text where it is known beforehand."""
     answer = read_leaf(data)
     text = answer_text(answer)
     if expected is not None:
@@ -42,7 +72,22 @@ def add(data, expected=None):
     # A leaf has one way to be written.
     if answer[0] == 'leaf':
         assert write_leaf(*answer[1:]) == data, data.hex()
-    vectors.setdefault(data, text)
+    return text
+
+
+def tally(text, number=1):
+    """Counts vectors with an answer text, by its kind."""
+    words = text.split(' ')
+    kind = 'leaf' if words[0] == 'leaf' else f'refused {words[1]}, {REFUSALS[int(words[1])]}'
+    counts[kind] = counts.get(kind, 0) + number
+
+
+def add(data, expected=None):
+    """Adds a vector that is written out, unless it is there already."""
+    text = answer_of(data, expected)
+    if data not in vectors:
+        vectors[data] = text
+        tally(text)
 
 
 def refuse(data, number, place):
@@ -533,6 +578,7 @@ def truncations():
     for leaf in (TWO, WORKED):
         for length in range(len(leaf)):
             refuse(leaf[:length], 13, length)
+    # Around each place at which an entry of the leaf of 32 rows begins.
     boundaries = [0]
     boundaries += [row_place(rank) for rank in range(1, 33)]
     boundaries += [finding_place(32, rank) for rank in range(1, 33)]
@@ -550,6 +596,94 @@ def every_kind_byte():
         add(bytes([kind]) + empty[1:])
     for kind in range(256):
         add(TWO[:24] + bytes([kind]) + TWO[25:])
+
+
+# --- Leaves of every length, and their entries out of place ------------------------------------------------
+
+
+def leaf_of(count):
+    """The leaf, in exact steps, of so many of the first rows of the leaf of 32 rows."""
+    return write_leaf(FULL_FRAME, 0, 0, FULL_ROWS[:count], FULL_FINDINGS[:count])
+
+
+def every_row_count():
+    """Leaves of every number of rows, in exact steps and by a linear tail."""
+    for count in range(33):
+        rows, findings = FULL_ROWS[:count], FULL_FINDINGS[:count]
+        accept(FULL_FRAME, 0, 0, rows, findings)
+        accept(FULL_FRAME, 1, 1 + count, rows, findings)
+
+
+def entries_of(data):
+    """The entries of a sound leaf, each as its bytes."""
+    entries = []
+    while data:
+        length = LENGTH[data[0]]
+        entries.append(data[:length])
+        data = data[length:]
+    return entries
+
+
+def every_entry_out_of_place():
+    """The leaf of three rows with two entries exchanged, one doubled, one left out: each pair and each one."""
+    entries = entries_of(leaf_of(3))
+    assert len(entries) == 8
+    for at, entry in enumerate(entries):
+        add(b''.join(entries[:at] + entries[at + 1:]))
+        add(b''.join(entries[:at] + [entry, entry] + entries[at + 1:]))
+        for other in range(at + 1, len(entries)):
+            swapped = list(entries)
+            swapped[at], swapped[other] = swapped[other], swapped[at]
+            add(b''.join(swapped))
+
+
+# --- Leaves cut and changed: lines about the bytes written last --------------------------------------------
+
+
+def write_out(data):
+    """Writes bytes out for the lines after it, and so as a vector once more."""
+    text = answer_of(data)
+    damages.append(f'{data.hex().upper()} {text}')
+    tally(text)
+
+
+def every_cut(data):
+    """A leaf cut at every length. Every leaf cut anywhere is refused with 13, at the length that is left."""
+    write_out(data)
+    for length in range(len(data)):
+        text = answer_of(data[:length], f'refused 13 at {length}')
+        damages.append(f'cut {length} {text}')
+        tally(text)
+
+
+def changes_at(data, offset):
+    """The answers to the bytes with the one at an offset changed, to the 255 other values in turn."""
+    for value in range(256):
+        if value != data[offset]:
+            yield value, answer_of(data[:offset] + bytes([value]) + data[offset + 1:])
+
+
+def every_change(data):
+    """A leaf with every byte changed to every other value, the values in a row that have one answer in a line."""
+    write_out(data)
+    for offset in range(len(data)):
+        runs = []  # first value, last value, answer
+        for value, text in changes_at(data, offset):
+            if runs and runs[-1][1] == value - 1 and runs[-1][2] == text:
+                runs[-1][1] = value
+            else:
+                runs.append([value, value, text])
+        assert sum(last - first + 1 for first, last, _ in runs) == 255
+        for first, last, text in runs:
+            damages.append(f'change {offset} {first:02X}-{last:02X} {text}')
+            tally(text, last - first + 1)
+
+
+def damaged_leaves():
+    for rows in (0, 1, 5, 32):
+        every_cut(leaf_of(rows))
+    for rows in (2, 3):
+        every_change(leaf_of(rows))
 
 
 # --- Chance ------------------------------------------------------------------------------------------------
@@ -713,7 +847,7 @@ def random_bytes():
 # --- All of them -------------------------------------------------------------------------------------------
 
 
-def main():
+def make_vectors():
     sound_leaves()
     damages_told_in_the_format()
     refusals_of_the_heading()
@@ -727,25 +861,31 @@ def main():
     random_leaves()
     random_walks()
     random_bytes()
+    every_row_count()
+    every_entry_out_of_place()
+    damaged_leaves()
 
-    counts = {}
-    for text in vectors.values():
-        words = text.split(' ')
-        answer = 'leaf' if words[0] == 'leaf' else f'refused {words[1]}'
-        counts[answer] = counts.get(answer, 0) + 1
+
+def main():
+    if sys.argv[1:] not in ([], ['--counts']):
+        sys.exit('use: leaf_vectors.py [--counts]')
+    make_vectors()
 
     # Every answer that reading can give is there.
-    assert counts.get('leaf', 0) >= 30
-    refusals = [1, 20, 3, 4, 5, 6, 7, 8, 9, 13, 14, 15, 16, 17, 18]
-    for number in refusals:
-        assert counts.get(f'refused {number}', 0) >= 2, number
-    assert len(counts) == 1 + len(refusals)
+    kinds = ['leaf'] + [f'refused {number}, {words}' for number, words in REFUSALS.items()]
+    assert sorted(counts) == sorted(kinds)
+    assert counts['leaf'] >= 30 and min(counts.values()) >= 2
 
+    if sys.argv[1:] == ['--counts']:
+        for kind in kinds:
+            print(f'{kind}: {counts[kind]} of {counts[kind]} agree')
+        total = sum(counts.values())
+        print(f'in all: {total} of {total} agree')
+        return
     for data, text in vectors.items():
         print(f'{data.hex().upper()} {text}')
-    for answer in ['leaf'] + [f'refused {number}' for number in refusals]:
-        print(f'{answer}: {counts[answer]}', file=sys.stderr)
-    print(f'in all: {len(vectors)}', file=sys.stderr)
+    for line in damages:
+        print(line)
 
 
 if __name__ == '__main__':
