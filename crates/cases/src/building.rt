@@ -1,4 +1,5 @@
-// Short ways to write down rows and findings.
+// Short ways to write down rows, findings and headings.
+use leaves::HeadingNumbers;
 use rows::{Fault, Numbers, Row};
 use verdicts::{Finding, Verdict};
 
@@ -30,5 +31,14 @@ pub(crate) fn misses(points: u32) -> Finding {
     Finding {
         verdict: Verdict::Misses,
         points,
+    }
+}
+
+// The numbers of a heading: frame, bound and accuracy.
+pub(crate) fn heading(frame: u32, bound: u8, accuracy: u8) -> HeadingNumbers {
+    HeadingNumbers {
+        frame,
+        bound,
+        accuracy,
     }
 }

@@ -10,6 +10,8 @@ mod bracketed;
 #[cfg(test)]
 mod building;
 #[cfg(test)]
+mod filed;
+#[cfg(test)]
 mod judged;
 #[cfg(test)]
 mod recounted;
@@ -17,3 +19,7 @@ mod recounted;
 mod searched;
 #[cfg(test)]
 mod surveyed;
+#[cfg(test)]
+mod worked_leaf;
+#[cfg(test)]
+mod written;
