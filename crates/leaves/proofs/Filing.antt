@@ -14,9 +14,13 @@ use Rattle.bounds.specs.Meaning.{finest, is_accuracy}
 use Rattle.leaves.specs.declared.entries.Heading.{Heading}
 use Rattle.leaves.specs.Headings.{heading_plain, heading_checks, bound_numbers}
 
+-- the frame of a heading is one
+pub framed : (h : Heading) → is_frame h.frame ≡ true
+framed h = and_from _ _ (le-leb 1 h.frame h.low) (le-leb h.frame horizon h.near)
+
 -- the numbers of a heading pass their checks
 pub heading_passes : (h : Heading) (at : ℕ) → first_refusal (heading_checks (heading_plain h) at) ≡ gives tt
-heading_passes h at = passes_on (not (is_frame h.frame)) 1 at _ (not_from_true (is_frame h.frame) (and_from _ _ (le-leb 1 h.frame h.low) (le-leb h.frame horizon h.near))) ∙ named h.bound
+heading_passes h at = passes_on (not (is_frame h.frame)) 1 at _ (not_from_true (is_frame h.frame) (framed h)) ∙ named h.bound
   where
     named : (b : Supplied) → first_refusal (heading_checks (record { frame = 1; bound = (bound_numbers b).0; accuracy = (bound_numbers b).1 }) at) ≡ gives tt
     named exact = refl
