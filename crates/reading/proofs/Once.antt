@@ -53,7 +53,7 @@ not_both bytes c n at fits r =
     cc
 
 -- a refusal is known by its number and its place
-again : {A B : Type 0} (n at m to : ℕ) → ◌≡◌ {A = Answer A} (refuses n at) (refuses m to) → ◌≡◌ {A = Answer B} (refuses n at) (refuses m to)
+pub again : {A B : Type 0} (n at m to : ℕ) → ◌≡◌ {A = Answer A} (refuses n at) (refuses m to) → ◌≡◌ {A = Answer B} (refuses n at) (refuses m to)
 again n at m to same = let number : n ≡ m = cc in let place : at ≡ to = cc in ap₂ refuses number place
 
 pub fits_once : FitsOnce

@@ -46,7 +46,7 @@ step_place (closes after_rows even number) = omega arith
 step_place (closes after_findings even number) = omega arith
 
 -- a body that is long enough is not cut
-uncut : {A : Type 0} (size at : ℕ) (body : List ℕ) (others : Answer A) → size ≤ length body → refuses_at 13 (if ltb (length body) size then Some (at + 1 + length body) else None) others ≡ others
+pub uncut : {A : Type 0} (size at : ℕ) (body : List ℕ) (others : Answer A) → size ≤ length body → refuses_at 13 (if ltb (length body) size then Some (at + 1 + length body) else None) others ≡ others
 uncut size at body others enough = passes_on (ltb (length body) size) 13 (at + 1 + length body) others (le-ltb (length body) size enough)
 
 -- the checks of A and Z in a phase that takes findings

@@ -56,6 +56,13 @@ impl<'a> Reader<'a> {
         self.phase
     }
 
+    /// The bytes that are left: those from the place of the next entry on.
+    pub fn left(&self) -> &'a [u8]
+        ensures { result.now ≡ self.now.left }
+    {
+        self.left
+    }
+
     /// The next entry; none after the end. A refusal tells the first check that fails at the place
     /// (docs/FORMAT.md has their order) and leaves the reader as it was, so that asking again gives
     /// the same; after the end it is none each time.
