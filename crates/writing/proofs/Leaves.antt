@@ -62,15 +62,14 @@ module _ (n : HeadingNumbers) (rs : List Row) (fs : List Finding) (size : ℕ) w
         room = ltb-false size (leaf_length (length rs)) room.0;
       }
 
-  -- lawful contents for which there is room come through
-  pub passes : {A : Type 0} (c : Contents) (x : A) → AreOf n rs fs c → IsLawful c → length (encoding c) ≤ size → checked (file_checks n rs fs size) x ≡ gives x
-  passes c x are lawful room =
+  -- of lawful contents nothing is left to be checked but the room
+  pub room_is_left : {A : Type 0} (c : Contents) (x : A) → AreOf n rs fs c → IsLawful c → checked (file_checks n rs fs size) x ≡ checked (check (ltb size (leaf_length (length rs))) 19 0 ∷ []) x
+  room_is_left c x are lawful =
       sym (passed_first (heading_checks n 0) others tt tt (sym (subst (λ m. first_refusal (heading_checks m 0) ≡ gives tt) are.heading (heading_passes c.heading 0))) x)
       ∙ passes_on (ltb most_rows (length rs)) 9 (row_place most_rows) _ (le-ltb most_rows (length rs) (omega (arith, count, lawful.few)))
       ∙ places_pass_on (λ r. not (is_on_frame n.frame r)) row_place rs 8 _ on
       ∙ passes_on (not (eqb (length fs) (length rs))) 16 _ _ (not_from_true _ (eq-eqb (length fs) (length rs) (omega (arith, count, number, lawful.even))))
       ∙ places_pass_on is_bad_finding (finding_place (length rs)) fs 17 _ good
-      ∙ passes_on (ltb size (leaf_length (length rs))) 19 0 (gives x) (le-ltb size (leaf_length (length rs)) (omega (arith, room, encoding_length c lawful, ap leaf_length count)))
     where
       count : length c.rows ≡ length rs
       count = ap length are.rows
@@ -86,6 +85,12 @@ module _ (n : HeadingNumbers) (rs : List Row) (fs : List Finding) (size : ℕ) w
 
       good : All (λ f. is_bad_finding f ≡ false) fs
       good = subst (λ xs. All (λ f. is_bad_finding f ≡ false) xs) are.findings (λ k d within. (lawful.good k d within).good)
+
+  -- lawful contents for which there is room come through
+  pub passes : {A : Type 0} (c : Contents) (x : A) → AreOf n rs fs c → IsLawful c → length (encoding c) ≤ size → checked (file_checks n rs fs size) x ≡ gives x
+  passes c x are lawful room =
+      room_is_left c x are lawful
+      ∙ passes_on (ltb size (leaf_length (length rs))) 19 0 (gives x) (le-ltb size (leaf_length (length rs)) (omega (arith, room, encoding_length c lawful, ap (λ ss. leaf_length (length ss)) are.rows)))
 
   -- so they are never refused
   pub never_refused : {A : Type 0} (c : Contents) (number at : ℕ) (x : A) → AreOf n rs fs c → IsLawful c → length (encoding c) ≤ size → refuses number at ≡ checked (file_checks n rs fs size) x → ⊥
