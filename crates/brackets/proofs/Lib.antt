@@ -4,3 +4,4 @@ pub mod Tails
 pub mod Rearranged
 pub mod TwoCounts
 pub mod Tried
+pub mod Climbing

@@ -1,2 +1,3 @@
 pub mod Bracketing
 pub mod Counting
+pub mod Slower

@@ -3,6 +3,8 @@
 
 mod accuracies;
 mod counting;
+mod slower;
 
 pub use accuracies::least_accuracy;
 pub use counting::{Counts, count_both};
+pub use slower::slow_rest;

@@ -1,7 +1,7 @@
 // Rows counted in exact steps and by a bound, side by side.
 use crate::building::{meets, misses, row};
 use bounds::{ExactSteps, LinearTail};
-use brackets::{Counts, count_both, least_accuracy};
+use brackets::{Counts, count_both, least_accuracy, slow_rest};
 use findings::find;
 use rows::Refusal;
 use std::test::Fail;
@@ -45,6 +45,29 @@ fn least_accuracies(rt: HostRuntime) -> Result<(), Fail> {
         least_accuracy(5, &row(1, 5, 5, 0)?, &[row(1, 1, 1, 0)?])?,
         None
     );
+    Ok(())
+}
+
+// On a processor of speed 3/4 B rests one instant later than in exact steps at full speed, and E
+// misses. A table of 32 rows is the largest: 31 stand above the last.
+#[test]
+fn rests_on_a_slower_processor(rt: HostRuntime) -> Result<(), Fail> {
+    let a = row(1, 4, 4, 0)?;
+    let b = row(2, 6, 6, 1)?;
+    let e = row(3, 12, 12, 0)?;
+    assert_eq!(rt; slow_rest(3, &b, &[a])?, Some(4));
+    assert_eq!(rt; slow_rest(3, &e, &[a, b])?, None);
+    let last = row(1, 64, 64, 0)?;
+    assert_eq!(rt; slow_rest(1, &last, &[last; 31])?, Some(64));
+    assert_eq!(rt;
+        slow_rest(1, &last, &[last; 32]),
+        Err(Refusal::FullTable.at(0))
+    );
+    assert_eq!(rt;
+        slow_rest(0, &last, &[last; 32]),
+        Err(Refusal::BadAccuracy.at(0))
+    );
+    assert_eq!(rt; slow_rest(65, &last, &[]), Err(Refusal::BadAccuracy.at(0)));
     Ok(())
 }
 
