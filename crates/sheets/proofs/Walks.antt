@@ -1,0 +1,67 @@
+-- A reader on its way through a sheet.
+use Rattle.std.proofs.Common.{◌≡◌, ℕ, ◌+◌, ◌<◌, true, List, [], ◌∷◌, ◌++◌, length, sym, refl, ap, ◌∙◌, subst, arith}
+use Rattle.std.proofs.lemmas.List.Elements.{All-append, All-cons, All-nil}
+use Rattle.std.proofs.lemmas.List.{append-nil, length-append, map_push}
+use Rattle.rows.specs.declared.tasks.Row.{Row}
+use Rattle.rows.specs.Answers.{gives, refuses, first_refusal}
+use Rattle.rows.specs.Counting.{is_on_frame}
+use Rattle.rows.specs.Times.{most_rows}
+use Rattle.leaves.specs.declared.entries.Heading.{Heading}
+use Rattle.leaves.specs.declared.entries.Entry.TheVariants.{Heading as heading, Row as row}
+use Rattle.leaves.specs.Contents.{bytes_of}
+use Rattle.leaves.specs.Entries.{entry_bytes}
+use Rattle.reading.specs.declared.phases.Phase.{Phase}
+use Rattle.reading.specs.declared.phases.Phase.TheVariants.{Opening, Rows}
+use Rattle.reading.specs.Grammar.{Step, stands}
+use Rattle.reading.specs.Stepping.{Reading, reading, TakesEntry}
+use Rattle.reading.proofs.Runs.{bytes_push}
+use Rattle.writing.proofs.Leaves.{opens_rows}
+use Rattle.sheets.specs.Reading.{row_checks, phase_after, IsRefusedAt, in_rows, Fits}
+use Rattle.sheets.specs.Tables.{Table, table, IsLawful, sheet_bytes, sheet_entries}
+
+-- a reader of the bytes has come here: it stands in the rows, after the sheet of a lawful table
+pub record HasRead (bytes : List ℕ) (t : Table) (here : Reading) : Type 0 where
+  pub phase : here.phase ≡ phase_after t
+  pub split : bytes ≡ sheet_bytes t ++ here.left
+  pub lawful : IsLawful t
+
+-- it has read the heading
+pub read_heading : (bytes : List ℕ) (old : Reading) (h : Heading) (new : Reading) → old ≡ reading Opening bytes → TakesEntry old (heading h) new → HasRead bytes (table h []) new
+read_heading bytes old h new is taken =
+    let here = subst (λ r. TakesEntry r (heading h) new) is taken in
+    record {
+      phase = opens_rows here.step;
+      split = here.split ∙ ap (λ xs. xs ++ new.left) (sym (append-nil (entry_bytes (heading h))));
+      lawful = record { few = omega arith; on = All-nil (λ r. is_on_frame h.frame r ≡ true) };
+    }
+
+-- where a row leads, and which can come
+leads_on : {h : Heading} {n : ℕ} {r : Row} {q : Phase} → Step (Rows h n) (row r) q → (n < most_rows) × (is_on_frame h.frame r ≡ true) × (q ≡ Rows h (n + 1))
+leads_on (stands room on) = (room, on, refl)
+
+module _ (bytes : List ℕ) (t : Table) (here : Reading) (has : HasRead bytes t here) where
+  module _ (r : Row) (new : Reading) (taken : TakesEntry here (row r) new) where
+    -- a row that it takes next has room, and stands on the frame
+    pub next_row : (length t.rows < most_rows) × (is_on_frame t.heading.frame r ≡ true) × (new.phase ≡ Rows t.heading (length t.rows + 1))
+    next_row = leads_on (subst (λ p. Step p (row r) new.phase) has.phase taken.step)
+
+    -- then it has read one row more
+    pub read_row : HasRead bytes (table t.heading (t.rows ++ r ∷ [])) new
+    read_row =
+        let count : length t.rows + 1 ≡ length (t.rows ++ r ∷ []) = omega (arith, length-append t.rows (r ∷ [])) in
+        record {
+          phase = next_row.2 ∙ ap (Rows t.heading) count;
+          split = has.split ∙ ap (λ xs. sheet_bytes t ++ xs) taken.split ∙ bytes_push (sheet_entries t) (row r) new.left ∙ ap (λ es. bytes_of (heading t.heading ∷ es) ++ new.left) (sym (map_push row t.rows r));
+          lawful = record {
+            few = omega (arith, next_row.0, count);
+            on = All-append (λ s. is_on_frame t.heading.frame s ≡ true) t.rows (r ∷ []) has.lawful.on (All-cons (λ s. is_on_frame t.heading.frame s ≡ true) r [] next_row.1 (All-nil (λ s. is_on_frame t.heading.frame s ≡ true)));
+          };
+        }
+
+  -- where a check refuses, the refusal fits
+  pub read_refused : (number at : ℕ) → refuses number at ≡ first_refusal (row_checks here.phase here.left) → IsRefusedAt bytes number at
+  read_refused number at refused = in_rows t here.left has.lawful has.split (ap (λ p. first_refusal (row_checks p here.left)) (sym has.phase) ∙ sym refused)
+
+  -- and where nothing is left, the table fits
+  pub read_all : here.left ≡ [] → Fits bytes (gives t)
+  read_all ended = (has.lawful, has.split ∙ ap (λ xs. sheet_bytes t ++ xs) ended ∙ append-nil (sheet_bytes t))

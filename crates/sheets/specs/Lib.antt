@@ -1,0 +1,4 @@
+pub mod Tables
+pub mod Reading
+pub mod Surveying
+pub mod Answers

@@ -1,0 +1,37 @@
+-- What fits a string of bytes as the answer to reading it as a sheet.
+use Rattle.std.specs.Prelude.{◌≡◌, ℕ, ◌||◌, List, [], ◌∷◌, ◌++◌, length, ◌==◌}
+use Rattle.rows.specs.Answers.{Answer, gives, refuses, Check, check, first_refusal}
+use Rattle.leaves.specs.Entries.{letter_A, letter_Z}
+use Rattle.reading.specs.declared.phases.Phase.{Phase}
+use Rattle.reading.specs.declared.phases.Phase.TheVariants.{Opening, Rows}
+use Rattle.reading.specs.Checks.{next_checks}
+use Rattle.reading.specs.Phases.{place_of}
+use Rattle.sheets.specs.Tables.{Table, IsLawful, sheet_bytes}
+
+-- the phase of a reader after the sheet of a table
+abbrev pub phase_after : Table → Phase
+phase_after t = Rows t.heading (length t.rows)
+
+-- what is checked in the rows of a sheet, of the bytes that are left: nothing where none is, for a sheet may end there;
+-- else out of turn where a finding or an end begins, and then all that is checked there in a leaf
+abbrev pub row_checks : Phase → List ℕ → List Check
+row_checks p [] = []
+row_checks p (k ∷ body) =
+    check (k == letter_A || k == letter_Z) 15 (place_of p)
+    ∷ next_checks p (place_of p) (k ∷ body)
+
+-- a refusal fits: it is that of the first check that fails, before the heading as in a leaf, or else in the rows,
+-- after the sheet of some lawful table
+pub data IsRefusedAt (bytes : List ℕ) (number at : ℕ) : Type 0 where
+  before_heading : first_refusal (next_checks Opening 0 bytes) ≡ refuses number at → IsRefusedAt bytes number at
+  in_rows : (t : Table) (left : List ℕ) → IsLawful t → bytes ≡ sheet_bytes t ++ left
+      → first_refusal (row_checks (phase_after t) left) ≡ refuses number at → IsRefusedAt bytes number at
+
+-- a table fits: it is lawful, and the bytes are its sheet
+abbrev pub Fits : List ℕ → Answer Table → Type 0
+Fits bytes (gives t) = IsLawful t × (bytes ≡ sheet_bytes t)
+Fits bytes (refuses number at) = IsRefusedAt bytes number at
+
+-- at most one answer fits
+abbrev pub FitsOnce : Type 0
+FitsOnce = (bytes : List ℕ) (a b : Answer Table) → Fits bytes a → Fits bytes b → a ≡ b
