@@ -1,4 +1,3 @@
 pub mod Kinds
-pub mod Counts
 pub mod Lines
 pub mod Leaves

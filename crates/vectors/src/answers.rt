@@ -4,6 +4,7 @@ use leaves::HeadingNumbers;
 use rows::{Fault, Numbers, Refusal};
 use std::alloc::Global;
 use std::fmt;
+use tallies::{numbers, refused, row_list};
 use verdicts::{Finding, Verdict};
 
 /// The refusals that reading gives, by their numbers.
@@ -49,7 +50,7 @@ impl Answer {
     pub(crate) fn parse(alloc: Global, text: &str) -> anyhow::Result<Answer> {
         match text.split_once(' ') {
             Some(("leaf", rest)) => Ok(Answer::Leaf(leaf_contents(alloc, rest)?)),
-            Some(("refused", rest)) => Ok(Answer::Refused(refused(rest)?)),
+            Some(("refused", rest)) => Ok(Answer::Refused(refused(rest, &REFUSALS)?)),
             _ => bail!("no answer: {text:?}"),
         }
     }
@@ -139,32 +140,6 @@ fn heading(text: &str) -> anyhow::Result<HeadingNumbers> {
     })
 }
 
-// The numbers in a text, with space before each.
-fn numbers(alloc: Global, text: &str) -> anyhow::Result<Vec<u32>> {
-    let mut numbers = Vec::new(alloc);
-    for word in text.split_whitespace() {
-        numbers.push(word.parse::<u32>().context("reading a number")?)?;
-    }
-    Ok(numbers)
-}
-
-// Rows, four numbers to each.
-fn row_list(alloc: Global, numbers: &[u32]) -> anyhow::Result<Vec<Numbers>> {
-    let mut rows = Vec::new(alloc);
-    for row in numbers.chunks(4) {
-        let [work, deadline, period, jitter] = row else {
-            bail!("a row has four numbers");
-        };
-        rows.push(Numbers {
-            work: *work,
-            deadline: *deadline,
-            period: *period,
-            jitter: *jitter,
-        })?;
-    }
-    Ok(rows)
-}
-
 // Findings, two numbers to each; a first rest of 0 is a miss.
 fn finding_list(alloc: Global, numbers: &[u32]) -> anyhow::Result<Vec<Finding>> {
     let mut findings = Vec::new(alloc);
@@ -182,18 +157,4 @@ fn finding_list(alloc: Global, numbers: &[u32]) -> anyhow::Result<Vec<Finding>> 
         })?;
     }
     Ok(findings)
-}
-
-// The refusal and the place told by what follows `refused`.
-fn refused(text: &str) -> anyhow::Result<Fault> {
-    let (number, at) = text.split_once(" at ").context("no place")?;
-    let number = number
-        .parse::<u8>()
-        .context("reading the refusal's number")?;
-    let at = at.parse::<u32>().context("reading the place")?;
-    let refusal = REFUSALS
-        .iter()
-        .find(|refusal| refusal.number() == number)
-        .context("reading gives no such refusal")?;
-    Ok(refusal.at(at))
 }

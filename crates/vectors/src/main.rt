@@ -12,9 +12,9 @@ mod answers;
 mod asking;
 mod drafts;
 mod holding;
+mod kinds;
 mod lines;
 mod rewriting;
-mod tallies;
 mod trying;
 
 use anyhow::{Context, ensure};
@@ -37,7 +37,7 @@ fn run(rt: &HostRuntime) -> anyhow::Result<()> {
         ))?;
     }
     trial.tally.print(rt)?;
-    ensure!(trial.tally.all_agree(), "some answers do not agree");
+    ensure!(trial.tally.all.all_agree(), "some answers do not agree");
     Ok(())
 }
 

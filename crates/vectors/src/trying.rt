@@ -4,22 +4,23 @@ ghost use Rattle.vectors.specs.Lines.{written_after};
 
 use crate::answers::Answer;
 use crate::asking::first_disagreement;
+use crate::kinds::{Kind, kinds};
 use crate::lines::{Bytes, Line};
-use crate::tallies::Tally;
 use anyhow::ensure;
 use std::alloc::{AllocError, Global};
+use tallies::{Tally, print_disagreement};
 
 /// A trial of vectors: how many answers agree so far.
 #[derive(Debug, Drop)]
 pub(crate) struct Trial {
     pub(crate) alloc: Global,
-    pub(crate) tally: Tally,
+    pub(crate) tally: Tally<Kind>,
 }
 
 impl Trial {
     /// Nothing tried yet.
     pub(crate) fn new(alloc: Global) -> Result<Trial, AllocError> {
-        let tally = Tally::new(alloc)?;
+        let tally = Tally::new(alloc, &kinds(alloc)?)?;
         Ok(Trial { alloc, tally })
     }
 
@@ -32,12 +33,10 @@ impl Trial {
         told: &Answer,
     ) -> anyhow::Result<()> {
         let found = first_disagreement(self.alloc, bytes, told)?;
-        self.tally.add(told, found.is_none());
+        self.tally.add(&Kind::of(told), found.is_none());
         if let Some(found) = found {
             let digits = hex::encode_upper(self.alloc, bytes)?;
-            println!(rt; "line {number}: {digits}")?;
-            println!(rt; "    told: {told}")?;
-            println!(rt; "    {found}")?;
+            print_disagreement(rt, number, &digits, told, &found)?;
         }
         Ok(())
     }

@@ -1,0 +1,3 @@
+pub mod Kinds
+pub mod Agreeing
+pub mod Answering

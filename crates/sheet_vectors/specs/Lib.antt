@@ -1,0 +1,2 @@
+pub mod Kinds
+pub mod Answers
