@@ -1,2 +1,1 @@
-pub mod Parts
 pub mod Deciding

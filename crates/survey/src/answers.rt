@@ -4,10 +4,10 @@ ghost use Rattle.std.specs.Io.KnownBytes.{Consumes};
 ghost use Rattle.sheets.specs.Answers.{deciding};
 ghost use Rattle.survey.specs.Answering.{IsAnswerTo, IsAnswerToHeld};
 
-use crate::input::fill;
 use sheets::{DECIDING, MOST_ANSWER, answer_sheet};
 use std::io;
 use std::io::Read;
+use streams::fill;
 
 /// Reads a sheet and puts its answer in front into a buffer (docs/FORMAT.md, The answer to a sheet).
 /// Answers its length in bytes. Of the input no more is read than the bytes that decide.

@@ -5,8 +5,6 @@
 #![tactic(auto)]
 
 mod answers;
-mod input;
-mod output;
 mod surveying;
 #[cfg(test)]
 mod tests;

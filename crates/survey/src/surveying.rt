@@ -6,11 +6,11 @@ ghost use Rattle.survey.specs.Answering.{IsAnswerToHeld};
 ghost use Rattle.survey.specs.Surveyed.{HasGot};
 
 use crate::answers::read_answer;
-use crate::output::put;
 use sheets::MOST_ANSWER;
 use std::error::Error;
 use std::io::{Read, Write};
 use std::{fmt, io};
+use streams::put;
 
 /// Why a sheet was not answered, or not to the end: its bytes could not be read, or those of the
 /// answer not be written.

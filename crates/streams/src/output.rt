@@ -11,7 +11,7 @@ use std::io::{ErrorKind, Write};
 ///
 /// An interrupted write is made again; any other error is passed on, and so is that of a writer that
 /// takes no byte. The writer has then got the first of the bytes and nothing else.
-pub(crate) fn put<W: Write>(writer: &mut W, bytes: &[u8]) -> io::Result<()>
+pub fn put<W: Write>(writer: &mut W, bytes: &[u8]) -> io::Result<()>
     ensures put { OnOk result (Appends (W.contents writer.old) (W.contents writer.new) bytes.now) }
     ensures begun { OnErr result ((n : ℕ) × (n ≤ length bytes.now)
         × Appends (W.contents writer.old) (W.contents writer.new) (take n bytes.now)) }
@@ -20,8 +20,8 @@ pub(crate) fn put<W: Write>(writer: &mut W, bytes: &[u8]) -> io::Result<()>
     writer.flush()
 }
 
-// Writes all of some bytes.
-fn write_whole<W: Write>(writer: &mut W, bytes: &[u8]) -> io::Result<()>
+/// Puts all of some bytes into a writer, as `put` does, and does not flush it.
+pub fn write_whole<W: Write>(writer: &mut W, bytes: &[u8]) -> io::Result<()>
     ensures put { OnOk result (Appends (W.contents writer.old) (W.contents writer.new) bytes.now) }
     ensures begun { OnErr result ((n : ℕ) × (n < length bytes.now)
         × Appends (W.contents writer.old) (W.contents writer.new) (take n bytes.now)) }

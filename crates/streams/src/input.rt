@@ -1,4 +1,4 @@
-// A buffer filled from a reader.
+// Bytes read from a reader.
 ghost use Rattle.std.specs.Prelude.{◌≢◌, ℕ, ◌<◌, ◌≤◌, List, length, take, IfOk, IfErr, OnErr};
 ghost use Rattle.std.specs.IoError.{error_kind};
 ghost use Rattle.std.specs.Io.{ReadsAtMost};
@@ -12,7 +12,7 @@ use std::io::{ErrorKind, Read};
 ///
 /// An interrupted read is made again; any other error is passed on, and the bytes read before it
 /// are lost.
-pub(crate) fn fill<R: Read>(reader: &mut R, buffer: &mut [u8]) -> io::Result<usize>
+pub fn fill<R: Read>(reader: &mut R, buffer: &mut [u8]) -> io::Result<usize>
     ensures within { IfOk result (λ n. n ≤ length buffer.new) }
     ensures read { IfOk result (λ n.
         Consumes (R.remaining reader.old) (R.remaining reader.new) (take n buffer.new)) }
@@ -32,9 +32,10 @@ pub(crate) fn fill<R: Read>(reader: &mut R, buffer: &mut [u8]) -> io::Result<usi
     Ok(count)
 }
 
-// Reads once, and again where a read is interrupted: 2^64 - 1 times at most, and then it ends in the error
-// of a time limit.
-fn read_again<R: Read>(reader: &mut R, buffer: &mut [u8]) -> io::Result<usize>
+/// Reads once, and again where a read is interrupted: 2^64 - 1 times at most, and then it ends in the
+/// error of a time limit. Answers how many bytes were read, which then stand in front in the buffer;
+/// none only at the end of the input, or where the buffer has no place.
+pub fn read_again<R: Read>(reader: &mut R, buffer: &mut [u8]) -> io::Result<usize>
     ensures within { ReadsAtMost result buffer.new }
     ensures read { ReadConsumes (R.remaining reader.old) (R.remaining reader.new) result buffer.new }
     ensures retried { IfErr result (λ e. error_kind e ≢ ErrorKind.Interrupted) }

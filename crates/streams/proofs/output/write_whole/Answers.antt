@@ -1,7 +1,7 @@
 use Rattle.std.proofs.Common.{ℕ, arith}
 use Rattle.std.proofs.lemmas.List.{length-take, length-drop}
-use Rattle.survey.proofs.Parts.{Appends-more}
-use Rattle.survey.proofs.output.write_whole.Goals as goal
+use Rattle.streams.proofs.Parts.{Appends-more}
+use Rattle.streams.proofs.output.write_whole.Goals as goal
 
 pub loop-count-preserved : goal.loop-count-preserved
 loop-count-preserved g c = record {

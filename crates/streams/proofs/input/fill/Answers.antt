@@ -1,8 +1,8 @@
 use Rattle.std.proofs.Common.{arith}
 use Rattle.std.proofs.lemmas.Result.{err_from_is_err_and}
 use Rattle.std.proofs.lemmas.Grind.{common_steps}
-use Rattle.survey.proofs.Parts.{Consumes-more, lost_before}
-use Rattle.survey.proofs.input.fill.Goals as goal
+use Rattle.streams.proofs.Parts.{Consumes-more, lost_before}
+use Rattle.streams.proofs.input.fill.Goals as goal
 
 pub returns-in_err-more-clause-lost : goal.returns-in_err-more-clause-lost
 returns-in_err-more-clause-lost g c =

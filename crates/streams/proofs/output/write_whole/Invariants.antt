@@ -1,7 +1,7 @@
 -- What was written so far are the first of the bytes.
 use Rattle.std.proofs.Common.{length, ◌-◌, ◌≤◌, take}
 use Rattle.std.specs.Io.KnownBytes.{Appends}
-use Rattle.survey.proofs.output.write_whole.Given as goal
+use Rattle.streams.proofs.output.write_whole.Given as goal
 
 abbrev pub invariant-loop-count : goal.invariant-loop-count
 invariant-loop-count g l = record {

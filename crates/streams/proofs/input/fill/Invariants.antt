@@ -1,7 +1,7 @@
 -- What was read so far stands in front in the buffer.
 use Rattle.std.proofs.Common.{length, ◌-◌, ◌≤◌, take}
 use Rattle.std.specs.Io.KnownBytes.{Consumes}
-use Rattle.survey.proofs.input.fill.Given as goal
+use Rattle.streams.proofs.input.fill.Given as goal
 
 abbrev pub invariant-loop-count : goal.invariant-loop-count
 invariant-loop-count g l = record {
