@@ -1,0 +1,56 @@
+-- A more accurate linear tail admits no less, and its rows rest no later.
+use Rattle.std.proofs.Common.{◌≡◌, ℕ, ◌+◌, ◌≤◌, true, false, List, [], ◌∷◌, sym, ◌∙◌, subst}
+use Rattle.std.specs.List.{AllPass}
+use Rattle.std.proofs.lemmas.Bool.{not_from_true}
+use Rattle.std.proofs.lemmas.List.Elements.{All-weaker}
+use Rattle.rows.specs.declared.tasks.Numbers.{Numbers}
+use Rattle.rows.specs.declared.tasks.Row.{Row}
+use Rattle.rows.specs.Answers.{gives}
+use Rattle.rows.proofs.Checks.{passed_first, places_pass_on}
+use Rattle.bounds.specs.Supplied.{linear_tail}
+use Rattle.findings.specs.Countable.{StandOn}
+use Rattle.findings.specs.Findings.{row_finding}
+use Rattle.findings.specs.Tables.{findings_of}
+use Rattle.brackets.specs.Bracketing.{IsNoLater}
+use Rattle.brackets.proofs.Earlier.{some_earlier}
+use Rattle.brackets.proofs.Tails.{finer_tails}
+use Rattle.admission.specs.declared.calls.Call.TheVariants.{Admit}
+use Rattle.admission.specs.Books.{Book, is_met, is_miss, with_newcomer, step}
+use Rattle.admission.specs.Promises.{FinerAdmits, FinerRests}
+use Rattle.admission.specs.Replies.{done}
+use Rattle.admission.specs.Runs.{book_after}
+use Rattle.admission.proofs.Entry.{entry_checks}
+use Rattle.admission.proofs.Findings.{each_meets, all_met}
+use Rattle.admission.proofs.Steps.{step_answers, stands_before, stands_with, runs_sound, admitted, overload_check}
+
+-- rows that meet by a linear tail meet by every more accurate one
+finer_meet : (k k' h : ℕ) (rows : List Row) → 1 ≤ k → k ≤ k' → StandOn h rows → AllPass is_met (findings_of (linear_tail k) h rows) → AllPass is_met (findings_of (linear_tail k') h rows)
+finer_meet k k' h rows low order stand met =
+    all_met (linear_tail k') h rows
+    (λ xs ys r split. some_earlier _ _ (finer_tails k k' h r xs low order (stands_before h rows xs (r ∷ ys) stand split)) (each_meets (linear_tail k) h rows met xs ys r split))
+
+-- on a book that is sound a newcomer that a linear tail admits is admitted by every more accurate one
+finer_admit : (k k' : ℕ) (b : Book) (rank : ℕ) (n : Numbers) → 1 ≤ k → k ≤ k' → StandOn b.frame b.rows → (step (linear_tail k) b (Admit rank n)).1 ≡ gives done → (step (linear_tail k') b (Admit rank n)).1 ≡ gives done
+finer_admit k k' b rank n low order stand admits =
+    let m = linear_tail k in
+    let m' = linear_tail k' in
+    let rows = with_newcomer rank n b.rows in
+    let passed = admitted m b rank n done done (sym admits ∙ step_answers m b (Admit rank n)) in
+    let meet = finer_meet k k' b.frame rows low order (stands_with b rank n stand passed.1) passed.2 in
+    let none = All-weaker (λ f. is_met f ≡ true) (λ f. is_miss f ≡ false) (λ f. not_from_true (is_met f)) (findings_of m' b.frame rows) meet in
+    step_answers m' b (Admit rank n)
+    ∙ sym (passed_first (entry_checks b rank n) (overload_check m' b rank n ∷ []) tt tt passed.0 done)
+    ∙ places_pass_on is_miss (λ i. i + 1) (findings_of m' b.frame rows) 11 (gives done) none
+
+-- so it is between benches whose books have come to agree
+pub finer_admits : FinerAdmits
+finer_admits k k' calls calls' low order same rank n admits =
+    subst (λ b. (step (linear_tail k') b (Admit rank n)).1 ≡ gives done) same
+    (finer_admit k k' (book_after (linear_tail k) calls) rank n low order (runs_sound (linear_tail k) calls).stand admits)
+
+-- and no row rests later
+pub finer_rests : FinerRests
+finer_rests k k' calls calls' low order same xs ys r split =
+    let b = book_after (linear_tail k) calls in
+    let stand = stands_before b.frame b.rows xs (r ∷ ys) (runs_sound (linear_tail k) calls).stand split in
+    subst (λ other. IsNoLater (row_finding (linear_tail k') other.frame r xs).rest (row_finding (linear_tail k) b.frame r xs).rest) same (finer_tails k k' b.frame r xs low order stand)

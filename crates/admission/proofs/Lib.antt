@@ -1,0 +1,13 @@
+pub mod Moved
+pub mod Findings
+pub mod Asking
+pub mod Counted
+pub mod Arriving
+pub mod Entry
+pub mod Runs
+pub mod Steps
+pub mod Standing
+pub mod Finer
+pub mod Overloads
+pub mod Called
+pub mod Played

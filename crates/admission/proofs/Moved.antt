@@ -1,0 +1,98 @@
+-- An element put into a list, and lists whose front is counted anew.
+use Rattle.std.proofs.Common.{◌≡◌, ℕ, suc, ◌+◌, ◌-◌, ◌<◌, ◌≤◌, List, [], ◌∷◌, ◌++◌, length, take, drop, set, refl, sym, ap, ◌∙◌, ap₂, arith}
+use Rattle.std.specs.List.{insert, remove, copy_within}
+use Rattle.std.proofs.lemmas.List.{append_assoc, drop-take, drop_at, length-append, length-drop, length-take-le, set_split, take-append-drop, take-append-le, take-take, take_all, take_at}
+use Rattle.std.proofs.lemmas.List.Edits.{length-paste, take-paste}
+use Rattle.rows.specs.Lists.{written}
+
+-- with the elements from a place on moved down by one, and a new one at the place, the new one is put in
+moved_down : {X : Type 0} (old : List X) (place last : ℕ) (x : X) → last + 1 ≡ length old → place ≤ last
+    → set (copy_within old place last (place + 1)) place x ≡ insert (take last old) place x
+moved_down old place last x whole within =
+    let n = last - place in
+    let tail = drop place old in
+    let all = copy_within old place last (place + 1) in
+    let tail-length = length-drop place old in
+    let size = length-paste old (place + 1) tail n (omega arith) (omega arith) in
+    let end : length all ≤ place + 1 + n = omega arith in
+    let is : all ≡ take (place + 1) old ++ take n tail = sym (take_all (place + 1 + n) all end) ∙ take-paste old (place + 1) tail n (omega arith) (omega arith) in
+    let front = length-take-le (place + 1) old (omega arith) in
+    let before : take place all ≡ take place (take last old) =
+    ap (take place) is ∙ take-append-le place (take (place + 1) old) (take n tail) (omega arith) ∙ take-take place (place + 1) old (omega arith) ∙ sym (take-take place last old within) in
+    let up : place + n ≡ last = omega arith in
+    let after : drop (suc place) all ≡ drop place (take last old) =
+    ap (drop (suc place)) is ∙ drop_at (take (place + 1) old) (take n tail) (suc place) (omega arith) ∙ sym (drop-take place n old) ∙ ap (λ l. drop place (take l old)) up in
+    set_split all place x (omega arith) ∙ ap₂ (λ xs ys. xs ++ x ∷ ys) before after
+
+-- and so it is at a rank
+pub moved_from_rank : {X : Type 0} (old now : List X) (rank : ℕ) (x : X) → 1 ≤ rank → rank ≤ length old → now ≡ copy_within old (rank - 1) (length old - 1) rank
+    → set now (rank - 1) x ≡ insert (take (length old - 1) old) (rank - 1) x
+moved_from_rank old now rank x low high moved =
+    let place = rank - 1 in
+    let last = length old - 1 in
+    let up : rank ≡ place + 1 = omega arith in
+    let is : now ≡ copy_within old place last (place + 1) = moved ∙ ap (copy_within old place last) up in
+    ap (λ xs. set xs place x) is ∙ moved_down old place last x (omega arith) (omega arith)
+
+-- where a list is written from a place on with what another has there, and has the same before it, it has the other in front
+pub whole_front : {X : Type 0} (old all new : List X) (from : ℕ) → new ≡ written old from (drop from all) → take from old ≡ take from all → take (length all) new ≡ all
+whole_front old all new from put same =
+    let rest = drop (from + length (drop from all)) old in
+    let is : new ≡ all ++ rest = put ∙ ap (λ xs. xs ++ (drop from all ++ rest)) same ∙ sym (append_assoc (take from all) (drop from all) rest) ∙ ap (λ xs. xs ++ rest) (take-append-drop from all) in
+    ap (take (length all)) is ∙ take_at all rest (length all) refl
+
+-- a list with an element put in has the elements before it and itself in front
+pub insert_front : {X : Type 0} (xs : List X) (k : ℕ) (x : X) → k ≤ length xs → take (k + 1) (insert xs k x) ≡ take k xs ++ x ∷ []
+insert_front xs k x within =
+    ap (take (k + 1)) (sym (append_assoc (take k xs) (x ∷ []) (drop k xs)))
+    ∙ take_at (take k xs ++ x ∷ []) (drop k xs) (k + 1) (omega (arith, length-append (take k xs) (x ∷ []), length-take-le k xs within))
+
+-- and one element more
+pub length_insert : {X : Type 0} (xs : List X) (k : ℕ) (x : X) → k ≤ length xs → length (insert xs k x) ≡ length xs + 1
+length_insert xs k x within = omega (arith, length-append (take k xs) (x ∷ drop k xs), length-take-le k xs within, length-drop k xs)
+
+-- with an element taken out, a list has one less
+pub length_remove : {X : Type 0} (xs : List X) (k : ℕ) → k < length xs → length (remove xs k) + 1 ≡ length xs
+length_remove xs k within = omega (arith, length-append (take k xs) (drop (suc k) xs), length-take-le k xs (omega arith), length-drop (suc k) xs)
+
+-- an element put into the first elements of a list, with one place more
+module _ {X : Type 0} (all put : List X) (n k : ℕ) (x : X) (room : n < length all) (within : k ≤ n)
+    (is : put ≡ insert (take (length (take (n + 1) all) - 1) (take (n + 1) all)) k x) where
+  -- it is put into those, and what the place held is dropped
+  put_is : put ≡ insert (take n all) k x
+  put_is =
+      let size = length-take-le (n + 1) all (omega arith) in
+      let one : length (take (n + 1) all) - 1 ≡ n = omega arith in
+      is ∙ ap (λ xs. insert xs k x) (ap (λ l. take l (take (n + 1) all)) one ∙ take-take n (n + 1) all (omega arith))
+
+  put_length : length put ≡ n + 1
+  put_length = ap length put_is ∙ length_insert (take n all) k x (omega (arith, length-take-le n all (omega arith))) ∙ ap (λ l. l + 1) (length-take-le n all (omega arith))
+
+  -- so it stands in front of the list, and the list is as long as it was
+  pub put_front : take (n + 1) (put ++ drop (n + 1) all) ≡ insert (take n all) k x
+  put_front = take_at put (drop (n + 1) all) (n + 1) put_length ∙ put_is
+
+  pub put_whole : length (put ++ drop (n + 1) all) ≡ length all
+  put_whole = omega (arith, length-append put (drop (n + 1) all), put_length, length-drop (n + 1) all)
+
+-- an element taken out of the first elements of a list
+module _ {X : Type 0} (all out : List X) (n k : ℕ) (room : n ≤ length all) (within : k < n)
+    (is : out ≡ remove (take n all) k ++ drop (length (take n all) - 1) (take n all)) where
+  out_length : length (remove (take n all) k) ≡ n - 1
+  out_length = omega (arith, length_remove (take n all) k (omega (arith, length-take-le n all room)), length-take-le n all room)
+
+  -- those that are left stand in front of the list, and the list is as long as it was
+  pub out_front : take (n - 1) (out ++ drop n all) ≡ remove (take n all) k
+  out_front =
+      let rest = drop (length (take n all) - 1) (take n all) in
+      ap (λ xs. take (n - 1) (xs ++ drop n all)) is ∙ ap (take (n - 1)) (append_assoc (remove (take n all) k) rest (drop n all))
+      ∙ take_at (remove (take n all) k) (rest ++ drop n all) (n - 1) out_length
+
+  pub out_whole : length (out ++ drop n all) ≡ length all
+  out_whole =
+      omega (arith, length-append out (drop n all), ap length is, length-append (remove (take n all) k) (drop (length (take n all) - 1) (take n all)), out_length, length-take-le n all room, length-drop (length (take n all) - 1) (take n all), length-drop n all)
+
+-- a list that is written over is as long as it was
+pub length_written : {X : Type 0} (old new : List X) (from : ℕ) → from + length new ≤ length old → length (written old from new) ≡ length old
+length_written old new from within =
+    omega (arith, length-append (take from old) (new ++ drop (from + length new) old), length-append new (drop (from + length new) old), length-take-le from old (omega arith), length-drop (from + length new) old)

@@ -1,0 +1,5 @@
+pub mod Replies
+pub mod Books
+pub mod Runs
+pub mod Benches
+pub mod Promises

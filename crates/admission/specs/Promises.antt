@@ -1,0 +1,77 @@
+-- What holds of a bench after every list of calls.
+use Rattle.std.specs.Prelude.{◌≡◌, ℕ, ◌+◌, ◌≤◌, List, [], ◌∷◌, ◌++◌, length, Some, None, nat_lt}
+use Rattle.std.specs.List.{AllPass}
+use Rattle.rows.specs.declared.tasks.Numbers.{Numbers}
+use Rattle.rows.specs.declared.tasks.Row.{Row}
+use Rattle.rows.specs.Answers.{Check, check, gives, refuses}
+use Rattle.rows.specs.Lists.{at_rank}
+use Rattle.bounds.specs.Meaning.{Meaning}
+use Rattle.bounds.specs.Supplied.{linear_tail}
+use Rattle.findings.specs.Exact.{exact_rest}
+use Rattle.findings.specs.Findings.{row_finding}
+use Rattle.findings.specs.Tables.{findings_of}
+use Rattle.brackets.specs.Bracketing.{IsNoLater, slow_rest}
+use Rattle.admission.specs.declared.calls.Call.{Call}
+use Rattle.admission.specs.declared.calls.Call.TheVariants.{Admit}
+use Rattle.admission.specs.Books.{is_met, step, with_newcomer}
+use Rattle.admission.specs.Replies.{done}
+use Rattle.admission.specs.Runs.{book_after, answers_to}
+
+-- what is checked of a list of calls that is to be replied to into so many places: short list
+abbrev pub play_checks : List Call → ℕ → List Check
+play_checks calls places = check (nat_lt places (length calls)) 12 0 ∷ []
+
+-- a row meets by a bound of accuracy k and in exact steps: exactly it rests no later than by the bound, and by the
+-- bound no later than exactly at speed k / (k + 1), where it rests at that speed
+pub record MeetsByBoth (m : Meaning) (h : ℕ) (r : Row) (above : List Row) : Type 0 where
+  pub rest : ℕ
+  pub exact : ℕ
+  pub bounded : (row_finding m h r above).rest ≡ Some rest
+  pub exactly : exact_rest r above ≡ Some exact
+  pub order : exact ≤ rest
+  pub slow : IsNoLater (Some rest) (slow_rest m.accuracy r above)
+
+-- after every list of calls each standing row meets so, below the rows before it
+abbrev pub StandingRowsMeet : Meaning → Type 0
+StandingRowsMeet m =
+    (calls : List Call) (xs ys : List Row) (r : Row) → (book_after m calls).rows ≡ xs ++ r ∷ ys
+    → MeetsByBoth m (book_after m calls).frame r xs
+
+-- the rank at names the first row of a table that misses by a bound of accuracy k, and that row misses in exact steps
+-- at speed k / (k + 1)
+pub record NamesMiss (m : Meaning) (h : ℕ) (rows : List Row) (at : ℕ) : Type 0 where
+  pub above : List Row
+  pub row : Row
+  pub below : List Row
+  pub table : rows ≡ above ++ row ∷ below
+  pub rank : at ≡ length above + 1
+  pub first : AllPass is_met (findings_of m h above)
+  pub misses : (row_finding m h row above).rest ≡ None
+  pub slow : slow_rest m.accuracy row above ≡ None
+
+-- a refusal for overload, at any place of any list of calls, is the answer to an admit, and names such a row with the
+-- newcomer put in at its rank
+abbrev pub OverloadsMiss : Meaning → Type 0
+OverloadsMiss m =
+    (before after : List Call) (c : Call) (at : ℕ)
+    → at_rank (length before + 1) (answers_to m (before ++ c ∷ after)) ≡ Some (refuses 11 at)
+    → (rank : ℕ) × (n : Numbers) × (c ≡ Admit rank n)
+    × NamesMiss m (book_after m before).frame (with_newcomer rank n (book_after m before).rows) at
+
+-- of two benches by linear tails whose books have come to agree, whatever lists of calls led there, the one that is at
+-- least as accurate admits at each rank every newcomer that the other admits there
+abbrev pub FinerAdmits : Type 0
+FinerAdmits =
+    (k k' : ℕ) (calls calls' : List Call) → 1 ≤ k → k ≤ k'
+    → book_after (linear_tail k) calls ≡ book_after (linear_tail k') calls' → (rank : ℕ) (n : Numbers)
+    → (step (linear_tail k) (book_after (linear_tail k) calls) (Admit rank n)).1 ≡ gives done
+    → (step (linear_tail k') (book_after (linear_tail k') calls') (Admit rank n)).1 ≡ gives done
+
+-- and by it no row rests later
+abbrev pub FinerRests : Type 0
+FinerRests =
+    (k k' : ℕ) (calls calls' : List Call) → 1 ≤ k → k ≤ k'
+    → book_after (linear_tail k) calls ≡ book_after (linear_tail k') calls' → (xs ys : List Row) (r : Row)
+    → (book_after (linear_tail k) calls).rows ≡ xs ++ r ∷ ys
+    → IsNoLater (row_finding (linear_tail k') (book_after (linear_tail k') calls').frame r xs).rest
+    (row_finding (linear_tail k) (book_after (linear_tail k) calls).frame r xs).rest

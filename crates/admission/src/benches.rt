@@ -1,0 +1,180 @@
+// The bench: its four calls, and what can be seen of it.
+use crate::calls::{Call, Reply};
+use crate::keeping::Table;
+use bounds::Bound;
+use rows::{Fault, MOST_ROWS, Numbers, Refusal, Row, is_frame};
+use std::marker::Model;
+use verdicts::Finding;
+
+/// An admission bench (docs/RULES.md, The bench): a table of at most 32 rows on a frame, on which
+/// tasks arrive and leave, with the finding of each row by a bound. Every row that stands meets.
+#[derive(Debug, Drop)]
+pub struct Bench<B: Bound> {
+    bound: B,
+    frame: u32,
+    table: Table,
+}
+
+impl<B: Bound> Model for Bench<B> {
+    ghost use Rattle.admission.specs.Benches.{Held, Keeps, table_rows, table_findings};
+    ghost use Rattle.admission.specs.Books.{book};
+
+    ghost Value = { Held B };
+
+    ghost view = { λ b. record {
+      bound = b.bound;
+      book = book b.frame (table_rows b.table);
+      findings = table_findings b.table;
+    } };
+
+    ghost invariant = { λ b. Keeps (B.meaning b.bound) b.frame b.table };
+}
+
+impl<B: Bound> Bench<B> {
+    ghost use Rattle.std.specs.Prelude.{◌≡◌, map, OnErr};
+    ghost use Rattle.std.specs.List.{AllPass};
+    ghost use Rattle.verdicts.specs.Found.{tells};
+    ghost use Rattle.findings.specs.Countable.{CanBeCounted};
+    ghost use Rattle.findings.specs.Tables.{findings_of};
+    ghost use Rattle.rows.specs.Times.{most_rows};
+    ghost use Rattle.admission.specs.Benches.{bench, Does};
+    ghost use Rattle.admission.specs.Books.{first_book, is_met};
+    ghost use Rattle.admission.specs.Replies.{as_done, as_found, IfRefused};
+    ghost use Rattle.admission.specs.declared.calls.Call.{Call};
+
+    /// A new bench: its bound, frame 1 and no row.
+    pub fn new(bound: B) -> Bench<B>
+        ensures { result ≡ bench (B.meaning bound) bound first_book }
+    {
+        Bench {
+            bound,
+            frame: 1,
+            table: Table::empty(),
+        }
+    }
+
+    /// The bound by which the bench counts.
+    pub fn bound(&self) -> &B
+        ensures { result.now ≡ self.now.bound }
+    {
+        &self.bound
+    }
+
+    /// The frame, in ticks.
+    pub fn frame(&self) -> u32
+        ensures { result ≡ self.now.book.frame }
+    {
+        self.frame
+    }
+
+    /// The rows that stand, in rank order, their numbers in ticks: at most 32, all on the frame.
+    pub fn rows(&self) -> &[Row]
+        ensures answered { result.now ≡ self.now.book.rows }
+        ensures stand { CanBeCounted most_rows self.now.book.frame result.now }
+    {
+        &self.table.rows[..self.table.count]
+    }
+
+    /// The findings of the rows, in rank order (docs/RULES.md, The bench): those of a survey. All meet.
+    pub fn findings(&self) -> &[Finding]
+        ensures answered { map tells result.now ≡ self.now.findings }
+        ensures surveyed { self.now.findings
+            ≡ findings_of (B.meaning self.now.bound) self.now.book.frame self.now.book.rows }
+        ensures meet { AllPass is_met self.now.findings }
+    {
+        &self.table.findings[..self.table.count]
+    }
+
+    /// Sets the frame, in ticks (docs/RULES.md, The bench).
+    ///
+    /// Refused, each at 0, with 1, bad frame, for a frame of 0 or above the horizon; 2, standing rows,
+    /// while a row stands (docs/REFUSALS.md). A refused call leaves the bench as it was.
+    pub fn set_frame(&mut self, frame: u32) -> Result<(), Fault>
+        ensures does { Does (B.meaning self.old.bound) (Call.Frame frame)
+            self.old self.new (as_done result) }
+        ensures refused { OnErr result (self.new ≡ self.old) }
+    {
+        let rows_stand = self.table.count > 0;
+        if !is_frame(frame) {
+            return Err(Refusal::BadFrame.at(0));
+        }
+        if rows_stand {
+            return Err(Refusal::StandingRows.at(0));
+        }
+        self.frame = frame;
+        Ok(())
+    }
+
+    /// Puts the row of four numbers in at a rank, and the rows from there on move down (docs/RULES.md,
+    /// The bench).
+    ///
+    /// Refused, each at 0 but the last, with 4, idle row, 5, no window, 6, late deadline, 7, long
+    /// period; 8, off frame; 9, full table, while 32 rows stand; 10, no rank, outside 1 to one past
+    /// the last; 11, overload, at the smallest rank whose row would miss with the new row in place
+    /// (docs/REFUSALS.md). A refused call leaves the bench as it was.
+    pub fn admit(&mut self, rank: usize, numbers: Numbers) -> Result<(), Fault>
+        ensures does { Does (B.meaning self.old.bound) (Call.Admit rank numbers)
+            self.old self.new (as_done result) }
+        ensures refused { OnErr result (self.new ≡ self.old) }
+    {
+        let row = numbers.judge_on(self.frame, 0)?;
+        if self.table.count == MOST_ROWS {
+            return Err(Refusal::FullTable.at(0));
+        }
+        if rank == 0 || rank > self.table.count + 1 {
+            return Err(Refusal::NoRank.at(0));
+        }
+        let table = self.table.with_row(&self.bound, self.frame, rank, row);
+        if let Some(place) = table.first_miss() {
+            return Err(Refusal::Overload.at(place as u32 + 1));
+        }
+        self.table = table;
+        Ok(())
+    }
+
+    /// Takes the row at a rank out, and the rows below it move up (docs/RULES.md, The bench).
+    ///
+    /// Refused with 10, no rank, at 0 where no row stands at the rank (docs/REFUSALS.md). A refused
+    /// call leaves the bench as it was.
+    pub fn dismiss(&mut self, rank: usize) -> Result<(), Fault>
+        ensures does { Does (B.meaning self.old.bound) (Call.Dismiss rank)
+            self.old self.new (as_done result) }
+        ensures refused { OnErr result (self.new ≡ self.old) }
+    {
+        if rank == 0 || rank > self.table.count {
+            return Err(Refusal::NoRank.at(0));
+        }
+        self.table = self.table.without_row(&self.bound, self.frame, rank);
+        Ok(())
+    }
+
+    /// The row at a rank and its finding (docs/RULES.md, The bench). As every row that stands, it is
+    /// on the frame and meets.
+    ///
+    /// Refused with 10, no rank, at 0 where no row stands at the rank (docs/REFUSALS.md).
+    pub fn inquire(&self, rank: usize) -> Result<(Row, Finding), Fault>
+        ensures does { Does (B.meaning self.now.bound) (Call.Inquire rank)
+            self.now self.now (as_found result) }
+        ensures stand { CanBeCounted most_rows self.now.book.frame self.now.book.rows }
+        ensures meet { AllPass is_met
+            (findings_of (B.meaning self.now.bound) self.now.book.frame self.now.book.rows) }
+    {
+        if rank == 0 || rank > self.table.count {
+            return Err(Refusal::NoRank.at(0));
+        }
+        Ok((self.table.rows[rank - 1], self.table.findings[rank - 1]))
+    }
+
+    /// Makes a call that is given as a value, and replies as that call does: one of the four above.
+    pub fn call(&mut self, call: Call) -> Reply
+        ensures does { Does (B.meaning self.old.bound) call self.old self.new result }
+        ensures refused { IfRefused result (self.new ≡ self.old) }
+    {
+        match call {
+            Call::Frame(frame) => self.set_frame(frame).into(),
+            Call::Admit(rank, numbers) => self.admit(rank, numbers).into(),
+            Call::Dismiss(rank) => self.dismiss(rank).into(),
+            Call::Inquire(rank) => self.inquire(rank).into(),
+        }
+    }
+}

@@ -1,0 +1,52 @@
+// The calls that a bench takes, as values, and what it replies.
+ghost use Rattle.std.specs.Prelude.{◌≡◌};
+
+use rows::{Fault, Numbers, Row};
+use verdicts::Finding;
+
+/// A call to a bench (docs/RULES.md, The bench). Ranks count from 1, the highest priority.
+#[derive(Clone, Copy, PartialEq, Eq, Debug)]
+pub enum Call {
+    /// Set the frame, while no row stands.
+    Frame(u32),
+    /// Make a row of four numbers, in ticks, and put it in at a rank.
+    Admit(usize, Numbers),
+    /// Take the row at a rank out.
+    Dismiss(usize),
+    /// Tell the row at a rank and its finding.
+    Inquire(usize),
+}
+
+/// What a bench replies to a call: it is done, the row asked for with its finding, or a refusal.
+#[derive(Clone, Copy, PartialEq, Eq, Debug)]
+pub enum Reply {
+    Done,
+    Found(Row, Finding),
+    Refused(Fault),
+}
+
+impl From<Result<(), Fault>> for Reply {
+    ghost use Rattle.admission.specs.Replies.{as_done};
+
+    ghost from_gives = { λ result reply. reply ≡ as_done result };
+
+    fn from(answer: Result<(), Fault>) -> Reply {
+        match answer {
+            Ok(()) => Reply::Done,
+            Err(fault) => Reply::Refused(fault),
+        }
+    }
+}
+
+impl From<Result<(Row, Finding), Fault>> for Reply {
+    ghost use Rattle.admission.specs.Replies.{as_found};
+
+    ghost from_gives = { λ result reply. reply ≡ as_found result };
+
+    fn from(answer: Result<(Row, Finding), Fault>) -> Reply {
+        match answer {
+            Ok((row, finding)) => Reply::Found(row, finding),
+            Err(fault) => Reply::Refused(fault),
+        }
+    }
+}

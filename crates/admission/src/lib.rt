@@ -1,0 +1,12 @@
+//! The admission bench: tasks arrive and leave, and every one that stands meets its deadline.
+#![tactic(auto)]
+
+mod benches;
+mod calls;
+mod edits;
+mod keeping;
+mod playing;
+
+pub use benches::Bench;
+pub use calls::{Call, Reply};
+pub use playing::play;
