@@ -1,0 +1,198 @@
+-- A row that is dismissed can be admitted back at its rank, and then the bench is as it was.
+use Rattle.std.proofs.Common.{◌≡◌, ℕ, suc, ◌+◌, ◌-◌, ◌≤◌, true, false, not, leb, List, ◌∷◌, ◌++◌, length, get_or, take, drop, Some, None, Option, Ok, Err, Result, refl, sym, ap, ◌∙◌, subst, ap₂, arith, position, OnErr}
+use Rattle.std.specs.List.{AllPass, insert}
+use Rattle.std.specs.Option.{option_map, unwrap_or}
+use Rattle.std.specs.Result.{IsOk, is_err}
+use Rattle.std.proofs.lemmas.Bool.{le-ltb, ne_eqb, and_from, le-leb}
+use Rattle.std.proofs.lemmas.List.{drop_at, get_or_at, take_at, length-append, length-drop, length-take-le}
+use Rattle.std.proofs.lemmas.List.Elements.{All-weaker}
+use Rattle.rows.specs.declared.refusals.Fault.{Fault}
+use Rattle.rows.specs.declared.tasks.Numbers.{Numbers}
+use Rattle.rows.specs.declared.tasks.Row.{Row}
+use Rattle.rows.specs.Answers.{Answer, gives, refuses, refuses_at, Check, checked, first_refusal, refusal}
+use Rattle.rows.specs.Counting.{is_on_frame}
+use Rattle.rows.specs.Judging.{plain, frame_flaws, flaw_checks, is_off_frame, is_idle, has_no_window, has_late_deadline, has_long_period}
+use Rattle.rows.specs.Lists.{at_rank, first_of}
+use Rattle.rows.specs.Refusals.{number}
+use Rattle.rows.specs.Times.{horizon, most_rows}
+use Rattle.rows.proofs.Checks.{first_passes, given_is, gives_any, passes_on, places_pass_on, refuses_any}
+use Rattle.rows.proofs.SameRow.{same_row}
+use Rattle.bounds.specs.Meaning.{Meaning}
+use Rattle.verdicts.specs.Found.{Found, tells}
+use Rattle.verdicts.specs.declared.verdicts.Finding.{Finding}
+use Rattle.findings.specs.Countable.{CanBeCounted}
+use Rattle.findings.specs.Findings.{row_finding}
+use Rattle.findings.specs.Tables.{findings_of}
+use Rattle.admission.specs.declared.calls.Call.TheVariants.{Admit, Dismiss, Inquire}
+use Rattle.admission.specs.declared.calls.Reply.{Reply}
+use Rattle.admission.specs.declared.calls.Reply.TheVariants.{Found as FoundRow}
+use Rattle.admission.specs.Benches.{Held, bench, Does}
+use Rattle.admission.specs.Books.{Book, book, checks_of, is_met, is_miss, is_rank, step, told, without}
+use Rattle.admission.specs.Replies.{Told, answer_of, as_done, done, row_found}
+use Rattle.admission.proofs.Called.{admits, newcomer_is}
+use Rattle.admission.proofs.Entry.{rank_within}
+use Rattle.admission.proofs.Steps.{parts_at, step_answers, step_given, step_refused}
+use Rattle.exchanges.specs.Exchanged.{exchange_checks}
+
+-- to inquire leaves the book
+inquire_leaves : (m : Meaning) (b : Book) (rank : ℕ) → (step m b (Inquire rank)).0 ≡ b
+inquire_leaves m b rank = by (checked (checks_of m b (Inquire rank)) (told m b (Inquire rank))) refl
+  where
+    by : (a : Answer Told) → a ≡ checked (checks_of m b (Inquire rank)) (told m b (Inquire rank)) → (step m b (Inquire rank)).0 ≡ b
+    by (gives x) given = ap (λ s. s.0) (step_given m b (Inquire rank) x given)
+    by (refuses n at) refused = ap (λ s. s.0) (step_refused m b (Inquire rank) n at refused)
+
+-- so the bench that is inquired is that of its bound and book
+pub kept_is : {B : Type 0} (m : Meaning) (rank : ℕ) (now : Held B) (reply : Reply) → Does m (Inquire rank) now now reply → now ≡ bench m now.bound now.book
+kept_is m rank now reply does = does.becomes ∙ ap (bench m now.bound) (inquire_leaves m now.book rank)
+
+-- the row that stands at a rank
+at_there : (rank : ℕ) (rows xs ys : List Row) (x : Row) → 1 ≤ rank → length xs ≡ rank - 1 → rows ≡ xs ++ x ∷ ys → at_rank rank rows ≡ Some x
+at_there rank rows xs ys x low place split =
+    let up : suc (rank - 1) ≡ rank = omega arith in
+    subst (λ n. at_rank n rows ≡ Some x) up (ap (λ rs. first_of (drop (rank - 1) rs)) split ∙ ap first_of (drop_at xs (x ∷ ys) (rank - 1) place))
+
+-- the row that is told of a rank stands there, between those before and after it
+pub record StandsAt (rank : ℕ) (rows : List Row) (r : Row) : Type 0 where
+  pub low : 1 ≤ rank
+  pub high : rank ≤ length rows
+  pub split : rows ≡ take (rank - 1) rows ++ r ∷ drop rank rows
+
+pub told_stands : {B : Type 0} (m : Meaning) (rank : ℕ) (now : Held B) (r : Row) (f : Finding) → Does m (Inquire rank) now now (FoundRow r f) → StandsAt rank now.book.rows r
+told_stands m rank now r f does =
+    let b = now.book in
+    let cs = checks_of m b (Inquire rank) in
+    let given : gives (row_found (plain r) (tells f)) ≡ checked cs (told m b (Inquire rank)) = does.replies ∙ step_answers m b (Inquire rank) in
+    let within = rank_within (length b.rows) rank (first_passes (not (is_rank (length b.rows) rank)) 10 0 (row_found (plain r) (tells f)) (gives (told m b (Inquire rank))) given).0 in
+    let parts = parts_at rank b.rows within.0 within.1 in
+    let there = at_there rank b.rows (take (rank - 1) b.rows) (drop rank b.rows) parts.0 within.0 (length-take-le (rank - 1) b.rows (omega (arith, within.1))) parts.1 in
+    let about = row_finding m b.frame parts.0 (take (rank - 1) b.rows) in
+    let tells_so : row_found (plain r) (tells f) ≡ row_found (plain parts.0) about =
+    given_is cs (row_found (plain r) (tells f)) (told m b (Inquire rank)) given
+    ∙ ap (λ o. unwrap_or (option_map (λ s. row_found (plain s) (row_finding m b.frame s (take (rank - 1) b.rows))) o) done) there in
+    let numbers : plain r ≡ plain parts.0 = cc in
+    record {
+      low = within.0;
+      high = within.1;
+      split = subst (λ s. b.rows ≡ take (rank - 1) b.rows ++ s ∷ drop rank b.rows) (sym (same_row r parts.0 numbers)) parts.1;
+    }
+
+-- a row on a frame has no flaw
+no_flaw : (h : ℕ) (r : Row) → is_on_frame h r ≡ true → gives (plain r) ≡ checked (flaw_checks (frame_flaws h) (plain r) 0) (plain r)
+no_flaw h r on =
+    let n = plain r in
+    sym (passes_on (is_idle n) 4 0 _ (ne_eqb r.work 0 (λ e. omega (arith, e, r.busy)))
+    ∙ passes_on (has_no_window n) 5 0 _ (le-ltb r.deadline (r.work + r.jitter) r.roomy)
+    ∙ passes_on (has_late_deadline n) 6 0 _ (le-ltb r.period r.deadline r.timely)
+    ∙ passes_on (has_long_period n) 7 0 _ (le-ltb horizon r.period r.near)
+    ∙ passes_on (is_off_frame h n) 8 0 (gives n) (ap not on))
+
+-- where all findings are met, none is a miss
+no_miss : (fs : List Found) → AllPass is_met fs → position is_miss fs ≡ None
+no_miss fs met =
+    by (position is_miss fs)
+    (places_pass_on is_miss (λ i. i) fs 0 (gives tt) (All-weaker (λ f. is_met f ≡ true) (λ f. is_miss f ≡ false) (λ f. ap not) fs met))
+  where
+    by : (o : Option ℕ) → refuses_at {A = Unit {0}} 0 (option_map (λ i. i) o) (gives tt) ≡ gives tt → o ≡ None
+    by None passes = refl
+    by (Some i) passes = cc
+
+-- the book without the row at a rank
+abbrev pub without_it : ℕ → Book → Book
+without_it rank b = book b.frame (without rank b.rows)
+
+-- a row that stands at a rank, dismissed and admitted back
+module _ (m : Meaning) (b : Book) (rank : ℕ) (r : Row) (there : StandsAt rank b.rows r) where
+  -- a row can be dismissed there
+  passes : not (is_rank (length b.rows) rank) ≡ false
+  passes = ap not (and_from (leb 1 rank) (leb rank (length b.rows)) (le-leb 1 rank there.low) (le-leb rank (length b.rows) there.high))
+
+  pub dismissed : step m b (Dismiss rank) ≡ (without_it rank b, gives done)
+  dismissed = step_given m b (Dismiss rank) done (sym (passes_on (not (is_rank (length b.rows) rank)) 10 0 (gives done) passes))
+
+  -- with the row put in again, the rows are those that stood
+  put_back : b.rows ≡ insert (without rank b.rows) (rank - 1) r
+  put_back =
+      let front = take (rank - 1) b.rows in
+      let back = drop rank b.rows in
+      let place = length-take-le (rank - 1) b.rows (omega (arith, there.high)) in
+      there.split ∙ sym (ap₂ (λ xs ys. xs ++ r ∷ ys) (take_at front back (rank - 1) place) (drop_at front back (rank - 1) place))
+
+  -- it stands on the frame
+  on_frame : AllPass (is_on_frame b.frame) b.rows → is_on_frame b.frame r ≡ true
+  on_frame on =
+      let place = length-take-le (rank - 1) b.rows (omega (arith, there.high)) in
+      let is : get_or b.rows (rank - 1) r ≡ r = ap (λ rs. get_or rs (rank - 1) r) there.split ∙ get_or_at (take (rank - 1) b.rows) r (drop rank b.rows) r (rank - 1) place in
+      ap (is_on_frame b.frame) (sym is) ∙ on (rank - 1) r (omega (arith, there.low, there.high))
+
+  -- where the rows stand on the frame and all meet, it is admitted back, and the book is as it was
+  pub back : CanBeCounted most_rows b.frame b.rows → AllPass is_met (findings_of m b.frame b.rows) → step m (without_it rank b) (Admit rank (plain r)) ≡ (b, gives done)
+  back counted met =
+      let lone = without_it rank b in
+      let front = take (rank - 1) b.rows in
+      let many : length (without rank b.rows) + 1 ≡ length b.rows =
+      omega (arith, length-append front (drop rank b.rows), length-take-le (rank - 1) b.rows (omega (arith, there.high)), length-drop rank b.rows, there.low, there.high) in
+      let judged = no_flaw b.frame r (on_frame counted.stands.on) in
+      let given = admits m lone rank (plain r) r judged (omega (arith, many, counted.few)) there.low (omega (arith, many, there.high)) b.rows put_back (no_miss (findings_of m b.frame b.rows) met) in
+      step_given m lone (Admit rank (plain r)) done given
+      ∙ ap (λ rows. (book b.frame rows, gives done)) (newcomer_is m lone rank (plain r) r judged ∙ sym put_back)
+
+-- the refusal of a call that has nothing to tell is that of its checks
+same_refusal : (r : Result (Unit {0}) Fault) (cs : List Check) → answer_of (as_done r) ≡ checked cs done → refusal r ≡ first_refusal cs
+same_refusal (Ok u) cs given = gives_any cs done done given tt
+same_refusal (Err fault) cs refused = refuses_any cs (number fault.refusal) fault.at done refused tt
+
+-- a call that is done is not refused
+done_ok : (r : Result (Unit {0}) Fault) → answer_of (as_done r) ≡ gives done → IsOk r
+done_ok (Ok u) is = refl
+done_ok (Err fault) is = cc
+
+-- a bench that was asked for a row, and from which the row has then been dismissed, by a bound of any meaning
+module _ {B : Type 0} (meaning : B → Meaning) (old alone : Held B) (rank : ℕ) (r : Row) (f : Finding) (asked : Does (meaning old.bound) (Inquire rank) old old (FoundRow r f))
+    (reply : Reply) (dismisses : Does (meaning old.bound) (Dismiss rank) old alone reply) where
+  there : StandsAt rank old.book.rows r
+  there = told_stands (meaning old.bound) rank old r f asked
+
+  alone_is : alone ≡ bench (meaning old.bound) old.bound (without_it rank old.book)
+  alone_is = dismisses.becomes ∙ ap (λ s. bench (meaning old.bound) old.bound s.0) (dismissed (meaning old.bound) old.book rank r there)
+
+  -- an admission there is one on the book without the row
+  admits_there : (n : Numbers) (now new : Held B) (answer : Reply) → now ≡ alone → Does (meaning now.bound) (Admit rank n) now new answer
+      → Does (meaning old.bound) (Admit rank n) (bench (meaning old.bound) old.bound (without_it rank old.book)) new answer
+  admits_there n now new answer same does = subst (λ x. Does (meaning x.bound) (Admit rank n) x new answer) (same ∙ alone_is) does
+
+  -- its refusal is that of an exchange
+  pub answered : (n : Numbers) (new : Held B) (result : Result (Unit {0}) Fault) → Does (meaning alone.bound) (Admit rank n) alone new (as_done result)
+      → refusal result ≡ first_refusal (exchange_checks (meaning old.bound) old.book rank n)
+  answered n new result does =
+      let m = meaning old.bound in
+      let b = old.book in
+      let cs = checks_of m (without_it rank b) (Admit rank n) in
+      same_refusal result cs ((admits_there n alone new (as_done result) refl does).replies ∙ step_answers m (without_it rank b) (Admit rank n))
+      ∙ sym (passes_on (not (is_rank (length b.rows) rank)) 10 0 (first_refusal cs) (passes m b rank r there))
+
+  -- where the rows stood on the frame and all met, the row is admitted back, and the bench is as it was
+  module _ (counted : CanBeCounted most_rows old.book.frame old.book.rows) (met : AllPass is_met (findings_of (meaning old.bound) old.book.frame old.book.rows))
+      (now new : Held B) (same : now ≡ alone) (n : Numbers) (its : n ≡ plain r) (result : Result (Unit {0}) Fault) (does : Does (meaning now.bound) (Admit rank n) now new (as_done result)) where
+    comes_back : step (meaning old.bound) (without_it rank old.book) (Admit rank n) ≡ (old.book, gives done)
+    comes_back =
+        ap (λ ns. step (meaning old.bound) (without_it rank old.book) (Admit rank ns)) its
+        ∙ back (meaning old.bound) old.book rank r there counted met
+
+    pub is_back : IsOk result
+    is_back = done_ok result ((admits_there n now new (as_done result) same does).replies ∙ ap (λ s. s.1) comes_back)
+
+    pub as_before : new ≡ old
+    as_before =
+        (admits_there n now new (as_done result) same does).becomes
+        ∙ ap (λ s. bench (meaning old.bound) old.bound s.0) comes_back ∙ sym (kept_is (meaning old.bound) rank old (FoundRow r f) asked)
+
+-- what holds on a refusal, where there is one
+pub where_refused : {P X : Type 0} (r : Result X Fault) → true ≡ is_err r → OnErr r P → P
+where_refused (Ok x) refused holds = cc
+where_refused (Err fault) refused holds = holds
+
+-- and what holds at all
+pub on_refusal : {P X : Type 0} (r : Result X Fault) → P → OnErr r P
+on_refusal (Ok x) holds = tt
+on_refusal (Err fault) holds = holds
