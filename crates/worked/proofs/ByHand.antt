@@ -7,6 +7,7 @@ use Rattle.bounds.specs.Supplied.{is_before_tail, linear_tail}
 use Rattle.findings.specs.Findings.{first_rest, stop, points}
 use Rattle.brackets.specs.Bracketing.{slow_rest}
 use Rattle.worked.specs.Table.{Worked, row_b}
+use Rattle.worked.proofs.Calls.{calls_come}
 
 -- two tests agree on the numbers below n
 abbrev agree : (ℕ → Bool) → (ℕ → Bool) → ℕ → Bool
@@ -53,4 +54,6 @@ worked = record {
   parts_at_5 = refl;
   parts_at_6 = refl;
   corners = corners_of_b;
+  bench_answers = calls_come.answered;
+  bench_book = calls_come.books;
 }

@@ -1,14 +1,21 @@
--- The worked table: three rows on a frame of 12, and what is found about them, counted by hand.
+-- The worked table: three rows on a frame of 12, and what is found about them and told by a bench, counted by hand.
 use Rattle.std.specs.Prelude.{◌≡◌, ℕ, ◌||◌, List, [], ◌∷◌, Some, None, ◌==◌}
 use Rattle.std.proofs.Common.{lit≤}
 use Rattle.rows.specs.declared.tasks.Row.{Row}
+use Rattle.rows.specs.Answers.{gives, refuses}
 use Rattle.rows.specs.Counting.{steps}
+use Rattle.rows.specs.Judging.{plain}
 use Rattle.bounds.specs.Meaning.{Meaning}
 use Rattle.bounds.specs.Supplied.{exact_steps, linear_tail}
 use Rattle.verdicts.specs.Found.{Found}
 use Rattle.findings.specs.Findings.{row_finding}
 use Rattle.findings.specs.Tables.{findings_of}
 use Rattle.brackets.specs.Bracketing.{slow_rest}
+use Rattle.admission.specs.declared.calls.Call.{Call}
+use Rattle.admission.specs.declared.calls.Call.TheVariants.{Frame, Admit, Dismiss, Inquire}
+use Rattle.admission.specs.Books.{book}
+use Rattle.admission.specs.Replies.{done, row_found}
+use Rattle.admission.specs.Runs.{book_after, answers_to}
 
 -- the rows, by work, deadline, period and jitter
 abbrev pub row_a : Row
@@ -58,6 +65,18 @@ meets rest points = record { rest = Some rest; points = points }
 abbrev pub misses : ℕ → Found
 misses points = record { rest = None; points = points }
 
+-- calls to a bench: the frame, A and B in ranks 1 and 2, E below them; then A leaves, E comes below B, and is asked for
+abbrev pub worked_calls : List Call
+worked_calls =
+    Frame 12
+    ∷ Admit 1 (plain row_a)
+    ∷ Admit 2 (plain row_b)
+    ∷ Admit 3 (plain row_e)
+    ∷ Dismiss 1
+    ∷ Admit 2 (plain row_e)
+    ∷ Inquire 2
+    ∷ []
+
 -- what was counted by hand
 pub record Worked : Type 0 where
   pub exact_a : found exact_steps row_a [] ≡ meets 1 1
@@ -82,3 +101,14 @@ pub record Worked : Type 0 where
   pub parts_at_6 : (linear_tail 2).amount 12 row_b 6 ≡ 52
   -- the corners of B under the tail of accuracy 3 are 5 and 11
   pub corners : (t : ℕ) → (linear_tail 3).is_corner row_b t ≡ (t == 5 || t == 11)
+  -- a bench by the tail of accuracy 2 refuses E below A and B, and admits it once A has left: its answers, and its book
+  pub bench_answers : answers_to (linear_tail 2) worked_calls
+      ≡ gives done
+      ∷ gives done
+      ∷ gives done
+      ∷ refuses 11 3
+      ∷ gives done
+      ∷ gives done
+      ∷ gives (row_found (plain row_e) (meets 5 1))
+      ∷ []
+  pub bench_book : book_after (linear_tail 2) worked_calls ≡ book 12 (row_b ∷ row_e ∷ [])

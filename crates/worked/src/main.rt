@@ -1,11 +1,14 @@
-//! The worked table, surveyed in exact steps and by linear tails, counted both ways, and printed.
+//! The worked table, surveyed in exact steps and by linear tails, counted both ways, and
+//! printed, and a bench that refuses a row and admits it later.
 #![tactic(auto)]
 
 mod printing;
 mod table;
 
 use bounds::{Bound, ExactSteps, LinearTail};
-use printing::{print_accuracies, print_both, print_response_times, print_rows, print_survey};
+use printing::{
+    print_accuracies, print_bench, print_both, print_response_times, print_rows, print_survey,
+};
 use rows::Row;
 use table::worked_rows;
 
@@ -28,7 +31,8 @@ fn run(rt: &HostRuntime) -> anyhow::Result<()> {
     compare(rt, "linear tail, accuracy 2", &LinearTail::new(2)?, &rows)?;
     compare(rt, "linear tail, accuracy 3", &LinearTail::new(3)?, &rows)?;
     print_accuracies(rt, &rows)?;
-    print_response_times(rt, &rows)
+    print_response_times(rt, &rows)?;
+    print_bench(rt, "linear tail, accuracy 2", LinearTail::new(2)?)
 }
 
 fn main(rt: HostRuntime) -> anyhow::Result<()> {

@@ -1,5 +1,6 @@
 // The worked table and what is found about its rows, as text.
-use crate::table::FRAME;
+use crate::table::{FRAME, worked_calls};
+use admission::{Call, Reply, play};
 use bounds::Bound;
 use brackets::{count_both, least_accuracy};
 use findings::{Finding, Verdict, response_time};
@@ -117,6 +118,55 @@ pub(crate) fn print_response_times(rt: &HostRuntime, rows: &[Row; 3]) -> anyhow:
             Some(time) => println!(rt; "{rank:>4}  {name:<4}  {time:>8}  {deadline:>8}")?,
             None => println!(rt; "{rank:>4}  {name:<4}    misses  {deadline:>8}")?,
         }
+    }
+    Ok(())
+}
+
+// A call, with the row of its numbers where it brings one.
+fn print_call(rt: &HostRuntime, call: &Call) -> anyhow::Result<()> {
+    match call {
+        Call::Frame(frame) => print!(rt; "frame {frame}")?,
+        Call::Admit(rank, row) => print!(rt;
+            "admit {rank} {} {} {} {}",
+            row.work, row.deadline, row.period, row.jitter
+        )?,
+        Call::Dismiss(rank) => print!(rt; "dismiss {rank}")?,
+        Call::Inquire(rank) => print!(rt; "inquire {rank}")?,
+    }
+    Ok(())
+}
+
+// The reply to a call, of a row its finding.
+fn print_reply(rt: &HostRuntime, reply: &Reply) -> anyhow::Result<()> {
+    match reply {
+        Reply::Done => println!(rt; "done")?,
+        Reply::Found(_, finding) => {
+            let points = finding.points;
+            match finding.verdict {
+                Verdict::Meets(rest) => println!(rt; "first rest {rest}, points {points}")?,
+                Verdict::Misses => println!(rt; "misses, points {points}")?,
+            }
+        }
+        Reply::Refused(fault) => println!(rt; "{fault}")?,
+    }
+    Ok(())
+}
+
+// The worked calls, played on a new bench by a bound.
+pub(crate) fn print_bench<B: Bound + Drop>(
+    rt: &HostRuntime,
+    title: &str,
+    bound: B,
+) -> anyhow::Result<()> {
+    println!(rt; "")?;
+    println!(rt; "bench by the {title}")?;
+    let calls = worked_calls();
+    let mut replies = [Reply::Done; 7];
+    play(bound, &calls, &mut replies)?;
+    for (call, reply) in calls.iter().zip(replies.iter()) {
+        print_call(rt, call)?;
+        print!(rt; ": ")?;
+        print_reply(rt, reply)?;
     }
     Ok(())
 }

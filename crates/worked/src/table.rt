@@ -1,7 +1,8 @@
-// The three rows of the worked table.
+// The three rows of the worked table, and calls to a bench with them.
 ghost use Rattle.std.specs.Prelude.{◌≡◌, [], ◌∷◌};
-ghost use Rattle.worked.specs.Table.{Worked, row_a, row_b, row_e};
+ghost use Rattle.worked.specs.Table.{Worked, row_a, row_b, row_e, worked_calls};
 
+use admission::Call;
 use rows::Row;
 
 /// The frame of the worked table.
@@ -33,5 +34,23 @@ pub fn worked_rows() -> [Row; 3]
             period: 12,
             jitter: 0,
         },
+    ]
+}
+
+/// The calls to a bench of the worked table, in order (docs/RULES.md, A worked table): E is refused
+/// below A and B, and admitted once A has left. `Worked` has what a bench by the linear tail of
+/// accuracy 2 answers.
+pub fn worked_calls() -> [Call; 7]
+    ensures { result ≡ worked_calls }
+{
+    let [a, b, e] = worked_rows();
+    [
+        Call::Frame(FRAME),
+        Call::Admit(1, a.numbers()),
+        Call::Admit(2, b.numbers()),
+        Call::Admit(3, e.numbers()),
+        Call::Dismiss(1),
+        Call::Admit(2, e.numbers()),
+        Call::Inquire(2),
     ]
 }
