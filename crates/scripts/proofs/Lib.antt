@@ -1,0 +1,12 @@
+pub mod WordList
+pub mod NumberOf
+pub mod Reading
+pub mod Clipping
+pub mod Printed
+pub mod Kept
+pub mod Beginnings
+pub mod Played
+pub mod Agreeing
+pub mod Runs
+pub mod Plain
+pub mod Answered

@@ -1,0 +1,11 @@
+-- What is kept of a text.
+use Rattle.std.specs.Prelude.{◌≡◌, ℕ, ◌≤◌, List, length}
+
+-- so many bytes of a text are kept: of a line those that may stand in a call, one more, and the one that may be dropped
+abbrev pub room : ℕ
+room = 130
+
+-- some bytes are counted of as many as there is room for
+pub record Keeps (count : ℕ) (bytes : List ℕ) : Type 0 where
+  pub places : length bytes ≡ room
+  pub within : count ≤ room

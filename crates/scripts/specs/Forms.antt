@@ -1,0 +1,53 @@
+-- The forms that a line may have.
+use Rattle.std.specs.Prelude.{ℕ, Bool, true, false, List, [], ◌∷◌, Option, codes, find}
+use Rattle.std.specs.Str.{bytes_eq}
+use Rattle.scripts.specs.declared.forms.Field.{Field}
+use Rattle.scripts.specs.declared.forms.Field.TheVariants.{Rank, Accuracy, Frame as FrameField, Work, Deadline, Period, Jitter}
+use Rattle.scripts.specs.declared.forms.Form.{Form}
+use Rattle.scripts.specs.declared.forms.Form.TheVariants.{Exact, Linear, Frame, Admit, Dismiss, Inquire}
+
+-- the first word of a line of a form
+abbrev pub form_name : Form → List ℕ
+form_name Exact = codes "exact"
+form_name Linear = codes "linear"
+form_name Frame = codes "frame"
+form_name Admit = codes "admit"
+form_name Dismiss = codes "dismiss"
+form_name Inquire = codes "inquire"
+
+-- the numbers that follow it, in order
+abbrev pub form_fields : Form → List Field
+form_fields Exact = []
+form_fields Linear = Accuracy ∷ []
+form_fields Frame = FrameField ∷ []
+form_fields Admit = Rank ∷ Work ∷ Deadline ∷ Period ∷ Jitter ∷ []
+form_fields Dismiss = Rank ∷ []
+form_fields Inquire = Rank ∷ []
+
+-- the forms that a line may have: of the calls once a bound has been named, else of the bounds
+abbrev pub forms_once : Bool → List Form
+forms_once true = Frame ∷ Admit ∷ Dismiss ∷ Inquire ∷ []
+forms_once false = Exact ∷ Linear ∷ []
+
+-- the one of them whose name a word is
+abbrev pub form_for : Bool → List ℕ → Option Form
+form_for named word = find (λ form. bytes_eq (form_name form) word) (forms_once named)
+
+-- a form with its numbers by name, as bytes
+abbrev pub form_text : Form → List ℕ
+form_text Exact = codes "exact"
+form_text Linear = codes "linear K"
+form_text Frame = codes "frame H"
+form_text Admit = codes "admit RANK C D T J"
+form_text Dismiss = codes "dismiss RANK"
+form_text Inquire = codes "inquire RANK"
+
+-- the name of a number in it, as bytes
+abbrev pub field_text : Field → List ℕ
+field_text Rank = codes "RANK"
+field_text Accuracy = codes "K"
+field_text FrameField = codes "H"
+field_text Work = codes "C"
+field_text Deadline = codes "D"
+field_text Period = codes "T"
+field_text Jitter = codes "J"

@@ -1,0 +1,11 @@
+pub mod Forms
+pub mod Words
+pub mod Lines
+pub mod Texts
+pub mod Scripts
+pub mod Sessions
+pub mod Written
+pub mod Runs
+pub mod Buffers
+pub mod Progress
+pub mod Blocks

@@ -1,0 +1,127 @@
+// The forms that a line may have, and the numbers that stand in them.
+ghost use Rattle.std.specs.Prelude.{◌≡◌, ◌≤◌, Some, length};
+ghost use Rattle.scripts.specs.Forms.{field_text, form_fields, form_for, forms_once, form_name, form_text};
+
+use std::fmt;
+
+/// A form of a line (docs/PROGRAMS.md, `bench`): its first word, and the numbers that follow it.
+#[derive(Clone, Copy, PartialEq, Eq, Debug)]
+pub enum Form {
+    /// `exact` names exact steps as the bound.
+    Exact,
+    /// `linear K` names the linear tail of accuracy K.
+    Linear,
+    /// `frame H` sets the frame.
+    Frame,
+    /// `admit RANK C D T J` puts a row in.
+    Admit,
+    /// `dismiss RANK` takes a row out.
+    Dismiss,
+    /// `inquire RANK` asks for a row and its finding.
+    Inquire,
+}
+
+/// A number in a form, which the form names by a letter or by `RANK`.
+#[derive(Clone, Copy, PartialEq, Eq, Debug)]
+pub enum Field {
+    Rank,
+    Accuracy,
+    Frame,
+    Work,
+    Deadline,
+    Period,
+    Jitter,
+}
+
+impl Form {
+    // The first word of a line of the form.
+    pub(crate) fn name(self) -> &'static [u8]
+        ensures { result.now ≡ form_name self }
+    {
+        match self {
+            Form::Exact => b"exact",
+            Form::Linear => b"linear",
+            Form::Frame => b"frame",
+            Form::Admit => b"admit",
+            Form::Dismiss => b"dismiss",
+            Form::Inquire => b"inquire",
+        }
+    }
+
+    // The numbers that follow it, in order: at most five.
+    pub(crate) fn fields(self) -> &'static [Field]
+        ensures fields { result.now ≡ form_fields self }
+        ensures few { length result.now ≤ 5 }
+    {
+        match self {
+            Form::Exact => &[],
+            Form::Linear => &[Field::Accuracy],
+            Form::Frame => &[Field::Frame],
+            Form::Admit => &[
+                Field::Rank,
+                Field::Work,
+                Field::Deadline,
+                Field::Period,
+                Field::Jitter,
+            ],
+            Form::Dismiss | Form::Inquire => &[Field::Rank],
+        }
+    }
+
+    // The forms that a line may have: until a bound has been named those that name one, and then the
+    // calls.
+    fn once(named: bool) -> &'static [Form]
+        ensures { result.now ≡ forms_once named }
+    {
+        if named {
+            &[Form::Frame, Form::Admit, Form::Dismiss, Form::Inquire]
+        } else {
+            &[Form::Exact, Form::Linear]
+        }
+    }
+
+    // The form that a line may have and that its first word names.
+    pub(crate) fn of(word: &[u8], named: bool) -> Option<Form>
+        ensures { result ≡ form_for named word.now }
+    {
+        Form::once(named)
+            .iter()
+            .copied()
+            .find(|form| form.name() == word)
+    }
+}
+
+// A form as docs/PROGRAMS.md writes it: "admit RANK C D T J".
+impl fmt::Display for Form {
+    ghost output = { λ x. Some (form_text x) };
+
+    fn fmt<W: fmt::Write>(&self, f: &mut fmt::Formatter<W>) -> fmt::Result {
+        let text = match self {
+            Form::Exact => "exact",
+            Form::Linear => "linear K",
+            Form::Frame => "frame H",
+            Form::Admit => "admit RANK C D T J",
+            Form::Dismiss => "dismiss RANK",
+            Form::Inquire => "inquire RANK",
+        };
+        write!(f, "{text}")
+    }
+}
+
+// A number of a form by its name there: "RANK", or a letter.
+impl fmt::Display for Field {
+    ghost output = { λ x. Some (field_text x) };
+
+    fn fmt<W: fmt::Write>(&self, f: &mut fmt::Formatter<W>) -> fmt::Result {
+        let text = match self {
+            Field::Rank => "RANK",
+            Field::Accuracy => "K",
+            Field::Frame => "H",
+            Field::Work => "C",
+            Field::Deadline => "D",
+            Field::Period => "T",
+            Field::Jitter => "J",
+        };
+        write!(f, "{text}")
+    }
+}

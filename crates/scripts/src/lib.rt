@@ -1,0 +1,19 @@
+//! Scripts: calls of a bench as lines of text, what is answered to them, and the run that answers
+//! them.
+#![tactic(auto)]
+
+mod buffer;
+mod expecting;
+mod forms;
+mod lines;
+mod player;
+mod running;
+mod session;
+mod shown;
+mod words;
+
+pub use expecting::Expected;
+pub use forms::{Field, Form};
+pub use lines::{Line, parse};
+pub use running::{Failure, run};
+pub use shown::{CallLine, NoCallLine, ReplyLine};

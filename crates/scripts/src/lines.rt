@@ -1,0 +1,100 @@
+// What a line of a script says.
+ghost use Rattle.std.specs.Prelude.{◌≡◌, ℕ, ◌^◌, ◌<◌, ◌≤◌, Bool, true, false, List, length, take, MatchResult};
+ghost use Rattle.admission.specs.declared.calls.Call.{Call};
+ghost use Rattle.scripts.specs.Lines.{line_by_form, line_by_words, line_of};
+ghost use Rattle.scripts.specs.Texts.{call_text, exact_text, linear_text, FitsLine};
+ghost use Rattle.scripts.specs.declared.lines.Line.{Line};
+ghost use Rattle.scripts.specs.Words.{words_of};
+
+use crate::expecting::Expected;
+use crate::forms::Form;
+use crate::words::Words;
+use admission::Call;
+use rows::Numbers;
+
+// The most bytes of a line that is no comment.
+const LONGEST_LINE: usize = 128;
+
+/// What a line of a script says (docs/PROGRAMS.md, `bench`).
+#[derive(Clone, Copy, PartialEq, Eq, Debug)]
+pub enum Line {
+    /// Nothing: it is a comment, or has no word.
+    Passed,
+    /// That the bench counts in exact steps.
+    Exact,
+    /// That the bench counts by the linear tail of an accuracy, which may be any number here.
+    Linear(u32),
+    /// A call.
+    Call(Call),
+    /// No call: something else was expected.
+    NoCall(Expected),
+}
+
+// Reads a line of a form by the words after its first.
+fn read(form: Form, words: Words) -> Result<Line, Expected>
+    requires { length (words_of words.0.now) < 2 ^ 64 }
+    ensures { MatchResult result (λ line. line ≡ line_by_form form (words_of words.entry.0.now))
+        (λ e. Line.NoCall e ≡ line_by_form form (words_of words.entry.0.now)) }
+{
+    let fields = form.fields();
+    if words.count() != fields.len() {
+        return Err(Expected::Form(form));
+    }
+    let [first, work, deadline, period, jitter] = words.numbers(fields).map_err(Expected::Number)?;
+    Ok(match form {
+        Form::Exact => Line::Exact,
+        Form::Linear => Line::Linear(first),
+        Form::Frame => Line::Call(Call::Frame(first)),
+        Form::Admit => {
+            let numbers = Numbers {
+                work,
+                deadline,
+                period,
+                jitter,
+            };
+            Line::Call(Call::Admit(first as usize, numbers))
+        }
+        Form::Dismiss => Line::Call(Call::Dismiss(first as usize)),
+        Form::Inquire => Line::Call(Call::Inquire(first as usize)),
+    })
+}
+
+// Reads a line by its words.
+fn read_words(mut words: Words, named: bool) -> Result<Line, Expected>
+    requires { length (words_of words.0.now) < 2 ^ 64 }
+    ensures { MatchResult result (λ line. line ≡ line_by_words named (words_of words.entry.0.now))
+        (λ e. Line.NoCall e ≡ line_by_words named (words_of words.entry.0.now)) }
+{
+    let Some(word) = words.next() else {
+        return Ok(Line::Passed);
+    };
+    match Form::of(word, named) {
+        Some(form) => read(form, words),
+        None if named => Err(Expected::CallName),
+        None => Err(Expected::Bound),
+    }
+}
+
+/// What a line says: its bytes without the line feed at its end, and without one carriage return
+/// before that; once a bound has been named, or before (docs/PROGRAMS.md, `bench`).
+///
+/// Of a line of more than 128 bytes only the first 129 matter. Every call whose rank is below 2^32 is
+/// what its own text says.
+#[tactic(auto, using(crate::proofs::WordList::length_words_of, crate::proofs::Clipping::line_of_clipped, crate::proofs::Printed::call_reads, crate::proofs::Printed::linear_reads))]
+pub fn parse(line: &[u8], named: bool) -> Line
+    ensures answered { result ≡ line_of named line.now }
+    ensures clipped { (named : Bool) (bytes : List ℕ)
+        → line_of named (take 129 bytes) ≡ line_of named bytes }
+    ensures reads_calls { (call : Call)
+        → FitsLine call → line_of true (call_text call) ≡ Line.Call call }
+    ensures reads_exact { line_of false exact_text ≡ Line.Exact }
+    ensures reads_linear { (k : ℕ) → k < 2 ^ 32 → line_of false (linear_text k) ≡ Line.Linear k }
+{
+    if line.first() == Some(&b'#') {
+        Line::Passed
+    } else if line.len() > LONGEST_LINE {
+        Line::NoCall(Expected::ShortLine)
+    } else {
+        read_words(Words(line), named).unwrap_or_else(Line::NoCall)
+    }
+}
