@@ -1,0 +1,16 @@
+//! Plays the script in standard input on a new bench, and answers its calls on standard output
+//! (docs/PROGRAMS.md, `bench`).
+//!
+//! A refusal is an answer, and so is what is told of a line that is no call; only input or output
+//! that fails is an error.
+#![tactic(auto)]
+
+#[cfg(test)]
+mod tests;
+
+use scripts::run;
+
+fn main(rt: HostRuntime) -> anyhow::Result<()> {
+    run(&mut rt.stdin(), &mut rt.stdout())?;
+    Ok(())
+}
