@@ -1,15 +1,17 @@
 #!/usr/bin/env bash
-# Makes each set of vectors anew, and the counts that the program over them is to print, and compares them with those
-# stored: stdin and stdout in the set's folder. With --write it stores them there instead.
+# Makes each set of vectors anew, and what the program over them is to print, and compares them with those stored:
+# stdin and stdout in the set's folder. With --write it stores them there instead. What is printed over most sets is how
+# many vectors of each kind agree; over the scripts it is the answers themselves.
 set -euo pipefail
 
 cd "$(dirname "${BASH_SOURCE[0]}")/.."
 
 # Each set: the script that makes it, and the folder in which it is stored.
 sets="
-leaf_vectors  crates/vectors
-sheet_vectors crates/sheet_vectors
-row_vectors   crates/row_vectors
+leaf_vectors   crates/vectors
+sheet_vectors  crates/sheet_vectors
+row_vectors    crates/row_vectors
+script_vectors crates/script_vectors
 "
 
 if [ $# -gt 1 ] || { [ $# -eq 1 ] && [ "$1" != --write ]; }; then
@@ -32,7 +34,7 @@ while read -r script stored; do
         for file in stdin stdout; do
             cat "$made/$file" >"$stored/$file"
         done
-        echo "$name: $lines lines, and their counts, written to $stored"
+        echo "$name: $lines lines, and what is printed over them, written to $stored"
         continue
     fi
 
@@ -46,5 +48,5 @@ while read -r script stored; do
             exit 1
         fi
     done
-    echo "$name: $lines lines, and their counts, as stored"
+    echo "$name: $lines lines, and what is printed over them, as stored"
 done <<<"$sets"
