@@ -1,3 +1,5 @@
 pub mod Fitting
+pub mod Floors
+pub mod Marking
 pub mod Rises
 pub mod SameTail

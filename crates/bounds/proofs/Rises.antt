@@ -1,9 +1,9 @@
 -- The next rise of a row's steps.
-use Rattle.std.proofs.Common.{◌+◌, ◌-◌, ◌*◌, ◌/◌, ℕ, arith}
+use Rattle.std.proofs.Common.{◌≡◌, true, ◌+◌, ◌-◌, ◌*◌, ◌/◌, ℕ, arith}
 use Rattle.std.proofs.lemmas.Nat.{div-add-mod', mod_below}
 use Rattle.rows.specs.declared.tasks.Row.{Row}
 use Rattle.rows.specs.Counting.{is_rise}
-use Rattle.rows.proofs.Rising.{multiple_rises, no_rise}
+use Rattle.rows.proofs.Rising.{at_multiple, multiple_rises, no_rise}
 use Rattle.bounds.specs.Instants.{IsFirst}
 
 -- the first rise after s is at the next multiple of the period
@@ -17,5 +17,16 @@ first_rise r s =
       after = omega arith;
       within = omega arith;
       holds = multiple_rises r t (b + 1) (omega arith) (omega arith);
+      none = λ i from to. no_rise r i b (omega arith) (omega arith);
+    }
+
+-- after a rise the next one is a period later, at u
+pub period_later : (r : Row) (t u : ℕ) → is_rise r t ≡ true → u ≡ t + r.period → IsFirst (is_rise r) t u u
+period_later r t u rise later =
+    let (b, some, multiple) = at_multiple r t rise in
+    record {
+      after = omega arith;
+      within = omega arith;
+      holds = multiple_rises r u (b + 1) (omega arith) (omega arith);
       none = λ i from to. no_rise r i b (omega arith) (omega arith);
     }

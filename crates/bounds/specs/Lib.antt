@@ -1,6 +1,7 @@
 pub mod Instants
 pub mod Meaning
 pub mod Answering
+pub mod Marks
 pub mod Laws
 pub mod Supplied
 pub mod Values

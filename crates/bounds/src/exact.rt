@@ -1,9 +1,11 @@
 // The exact steps, as a bound.
+ghost use Rattle.std.specs.Prelude.{◌≡◌};
+ghost use Rattle.bounds.specs.Answering.{IsFloor, own_floor};
 ghost use Rattle.bounds.specs.Supplied.{exact_steps};
 ghost use Rattle.bounds.specs.Lemmas.ExactLaws.{exact_laws};
 
-use crate::interface::{Bound, FINEST, asked};
-use crate::releases::next_rise;
+use crate::interface::{Bound, FINEST, asked, steps_floor};
+use crate::releases::{mark_rises, next_rise};
 use rows::{HORIZON, Row};
 
 /// The count in exact steps: no amount is rounded, and every step is a corner.
@@ -23,6 +25,14 @@ impl Bound for ExactSteps {
         }
     }
 
+    // The steps never fall, so they are a floor themselves.
+    fn floor(&self, frame: u32, row: &Row, at: u32) -> u64
+        ensures under { IsFloor exact_steps frame row.now at result }
+        ensures own { result ≡ own_floor exact_steps frame row.now at }
+    {
+        steps_floor(frame, row, at)
+    }
+
     fn next_corner(&self, frame: u32, row: &Row, after: u32) -> Option<u32> {
         if !asked(frame, row, after) {
             return None;
@@ -33,6 +43,10 @@ impl Bound for ExactSteps {
         } else {
             None
         }
+    }
+
+    fn mark(&self, row: &Row, after: u32, marks: &mut [bool]) -> Option<u32> {
+        mark_rises(row, after, HORIZON, marks)
     }
 
     fn accuracy(&self) -> u32 {

@@ -5,7 +5,7 @@ ghost use Rattle.rows.specs.Times.{horizon};
 ghost use Rattle.bounds.specs.Meaning.{finest, is_accuracy};
 
 use crate::interface::{Bound, FINEST, asked};
-use crate::releases::next_rise;
+use crate::releases::{mark_rises, next_rise};
 use rows::{Fault, HORIZON, Refusal, Row};
 
 /// The linear tail of an accuracy from 1 to 64: the larger, the closer to the steps (docs/RULES.md,
@@ -18,7 +18,7 @@ pub struct LinearTail {
 }
 
 impl LinearTail {
-    ghost use Rattle.bounds.specs.Supplied.{is_before_tail};
+    ghost use Rattle.bounds.specs.Supplied.{is_before_tail, linear_tail};
     ghost use Rattle.bounds.specs.Values.{accuracy_of};
 
     /// The linear tail of accuracy k; refused with 3, bad accuracy, at 0 outside 1 to 64.
@@ -39,9 +39,24 @@ impl LinearTail {
     {
         at + row.jitter <= (self.accuracy - 1) * row.period
     }
+
+    // The parts at an instant up to the horizon, also at a frame where nothing is asked: exact steps
+    // before the tail begins, and past that the line.
+    fn parts(&self, frame: u32, row: &Row, at: u32) -> u64
+        requires { at ≤ horizon }
+        ensures { result ≡ (linear_tail (accuracy_of self.now)).amount frame row.now at }
+    {
+        if self.is_before_tail(row, at) {
+            return u64::from(frame) * row.steps(at);
+        }
+        let work = u64::from(row.work);
+        let times = u64::from(frame / row.period);
+        u64::from(frame) * work + u64::from(at + row.jitter) * (work * times)
+    }
 }
 
 impl Bound for LinearTail {
+    ghost use Rattle.bounds.specs.Answering.{IsFloor, own_floor};
     ghost use Rattle.bounds.specs.Supplied.{linear_tail};
     ghost use Rattle.bounds.specs.Values.{accuracy_of};
     ghost use Rattle.bounds.specs.Lemmas.SuppliedLaws.{tail_laws};
@@ -51,16 +66,24 @@ impl Bound for LinearTail {
     ghost lawful = { tail_laws };
 
     fn amount(&self, frame: u32, row: &Row, at: u32) -> u64 {
-        if !asked(frame, row, at) {
-            return 0;
+        if asked(frame, row, at) {
+            self.parts(frame, row, at)
+        } else {
+            0
         }
-        let frame = u64::from(frame);
-        if self.is_before_tail(row, at) {
-            return frame * row.steps(at);
+    }
+
+    // The amount never falls, so it is a floor itself. Where nothing is asked any answer is one, so
+    // `asked` and its division are left out.
+    fn floor(&self, frame: u32, row: &Row, at: u32) -> u64
+        ensures under { IsFloor (linear_tail (accuracy_of self.now)) frame row.now at result }
+        ensures own { result ≡ own_floor (linear_tail (accuracy_of self.now)) frame row.now at }
+    {
+        if at <= HORIZON {
+            self.parts(frame, row, at)
+        } else {
+            0
         }
-        let work = u64::from(row.work);
-        let ready = u64::from(at + row.jitter);
-        frame * work + ready * (work * (frame / u64::from(row.period)))
     }
 
     fn next_corner(&self, frame: u32, row: &Row, after: u32) -> Option<u32> {
@@ -73,6 +96,13 @@ impl Bound for LinearTail {
         } else {
             None
         }
+    }
+
+    // The corners are the rises up to the beginning of the tail: there are none where the jitter
+    // reaches as far.
+    fn mark(&self, row: &Row, after: u32, marks: &mut [bool]) -> Option<u32> {
+        let begin = ((self.accuracy - 1) * row.period).saturating_sub(row.jitter);
+        mark_rises(row, after, begin.min(HORIZON), marks)
     }
 
     fn accuracy(&self) -> u32 {

@@ -1,8 +1,9 @@
 // The instants at which exact steps rise.
-ghost use Rattle.std.specs.Prelude.{◌+◌, ◌≤◌};
+ghost use Rattle.std.specs.Prelude.{◌≡◌, ◌+◌, ◌-◌, ◌≤◌, length};
 ghost use Rattle.rows.specs.Times.{horizon};
 ghost use Rattle.rows.specs.Counting.{is_rise};
-ghost use Rattle.bounds.specs.Instants.{IsFirst};
+ghost use Rattle.bounds.specs.Instants.{IsFirst, least};
+ghost use Rattle.bounds.specs.Marks.{Marks, up_to};
 
 use rows::Row;
 
@@ -13,4 +14,30 @@ pub(crate) fn next_rise(row: &Row, after: u32) -> u32
     ensures { IsFirst (is_rise row.now) after (after + row.now.period) result }
 {
     ((after + row.jitter) / row.period + 1) * row.period - row.jitter
+}
+
+// Sets the flags of the rises up to `last` among the instants just after `after`, where flag k
+// stands for after + 1 + k, and answers the first rise past these instants, up to `last`. One
+// division finds the first rise; from there on every period has one.
+pub(crate) fn mark_rises(row: &Row, after: u32, last: u32, marks: &mut [bool]) -> Option<u32>
+    requires { last ≤ horizon }
+    ensures marks { Marks (up_to last (is_rise row.now)) after marks.old marks.new }
+    ensures past { result ≡ least (is_rise row.now) (last - (after + length marks.old)) (after + length marks.old + 1) }
+{
+    if after >= last {
+        return None;
+    }
+    let room = (last - after) as usize;
+    let end = marks.len().min(room);
+    let period = row.period as usize;
+    let mut place = (next_rise(row, after) - after - 1) as usize;
+    while place < end {
+        marks[place] = true;
+        place += period;
+    }
+    if place < room {
+        Some(after + 1 + place as u32)
+    } else {
+        None
+    }
 }

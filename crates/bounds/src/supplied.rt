@@ -13,6 +13,8 @@ pub enum Supplied {
 }
 
 impl Bound for Supplied {
+    ghost use Rattle.std.specs.Prelude.{◌≡◌};
+    ghost use Rattle.bounds.specs.Answering.{IsFloor, own_floor};
     ghost use Rattle.bounds.specs.Values.{meaning_of};
     ghost use Rattle.bounds.specs.Lemmas.SuppliedLaws.{laws_of};
 
@@ -27,10 +29,27 @@ impl Bound for Supplied {
         }
     }
 
+    fn floor(&self, frame: u32, row: &Row, at: u32) -> u64
+        ensures under { IsFloor (meaning_of self.now) frame row.now at result }
+        ensures own { result ≡ own_floor (meaning_of self.now) frame row.now at }
+    {
+        match self {
+            Supplied::ExactSteps => ExactSteps.floor(frame, row, at),
+            Supplied::LinearTail(tail) => tail.floor(frame, row, at),
+        }
+    }
+
     fn next_corner(&self, frame: u32, row: &Row, after: u32) -> Option<u32> {
         match self {
             Supplied::ExactSteps => ExactSteps.next_corner(frame, row, after),
             Supplied::LinearTail(tail) => tail.next_corner(frame, row, after),
+        }
+    }
+
+    fn mark(&self, row: &Row, after: u32, marks: &mut [bool]) -> Option<u32> {
+        match self {
+            Supplied::ExactSteps => ExactSteps.mark(row, after, marks),
+            Supplied::LinearTail(tail) => tail.mark(row, after, marks),
         }
     }
 

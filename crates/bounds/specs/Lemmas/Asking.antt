@@ -35,22 +35,14 @@ asked_then h r t u ask near = and_from (is_frame h && is_on_frame h r) (nat_le u
 abbrev pub most_steps : ℕ
 most_steps = 3 * horizon
 
--- so at a frame up to the horizon no exact steps, nor the line of the tail, have more parts than this
+-- so many parts are these steps at the longest frame
 abbrev pub most_parts : ℕ
 most_parts = horizon * most_steps
 
--- exact steps do not
+-- no exact steps have more parts at a frame up to the horizon
 pub steps_fit : (h : ℕ) (r : Row) (t : ℕ) → h ≤ horizon → t ≤ horizon → h * steps r t ≤ most_parts
 steps_fit h r t frame near =
     let jobs = ceiling (t + r.jitter) r.period in
     let tight = ceiling_tight (t + r.jitter) r.period (omega arith) in
     let work = mul-le r.work jobs r.period jobs (omega arith) (omega arith) in
     mul-le h (steps r t) horizon most_steps frame (omega arith)
-
--- nor does the line, as the code adds it up
-pub line_fits : (h : ℕ) (r : Row) (t : ℕ) → IsAsked h r t → h * r.work + (t + r.jitter) * (r.work * (h / r.period)) ≤ most_parts
-line_fits h r t ask =
-    let share = mul-le r.work (h / r.period) r.period (h / r.period) (omega arith) (omega arith) in
-    let rise = mul-le (t + r.jitter) (r.work * (h / r.period)) (2 * horizon) horizon (omega arith) (omega arith) in
-    let first = mul-le h r.work horizon horizon ask.frame (omega arith) in
-    omega arith
