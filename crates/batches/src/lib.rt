@@ -93,6 +93,11 @@ impl Bound for Batches {
         ExactSteps.next_corner(frame, row, after)
     }
 
+    // The corners are those of exact steps, whose flags are set by one addition each.
+    fn mark(&self, row: &Row, after: u32, marks: &mut [bool]) -> Option<u32> {
+        ExactSteps.mark(row, after, marks)
+    }
+
     fn accuracy(&self) -> u32 {
         self.accuracy
     }
