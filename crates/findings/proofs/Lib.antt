@@ -1,6 +1,10 @@
 pub mod Turning
 pub mod Amounts
+pub mod Floors
 pub mod Nearest
+pub mod Points
+pub mod SetFlags
+pub mod Blocks
 pub mod OnFrame
 pub mod Walk
 pub mod FixedPoint

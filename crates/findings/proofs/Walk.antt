@@ -1,11 +1,13 @@
 -- From test point to test point: what is known on the way, and what is found at the end.
-use Rattle.std.proofs.Common.{◌≡◌, ℕ, zero, suc, ◌+◌, ◌-◌, ◌<◌, ◌≤◌, true, false, ◌&&◌, eqb, ltb, Some, None, Option, unwrap_or, sym, refl, ap, ◌∙◌, subst, ⊎_elim, arith, MatchOption}
+use Rattle.std.proofs.Common.{◌≡◌, ℕ, zero, suc, ◌+◌, ◌-◌, ◌<◌, ◌≤◌, true, false, ◌&&◌, eqb, ltb, Some, None, Option, unwrap_or, sym, refl, ap, subst, ⊎_elim, arith, MatchOption}
+use Rattle.std.proofs.lemmas.Option.{none-some, MatchOption-at_some}
 use Rattle.std.proofs.lemmas.Bool.{and_from, and_left, and_parts, and_right, both_ways, cases_lt, eq-eqb, lt-ltb, or_left, or_parts, and_cases}
 use Rattle.rows.specs.Times.{horizon}
 use Rattle.bounds.specs.Instants.{least, count, IsFirst, OnceThenOn}
 use Rattle.bounds.specs.Laws.{Laws}
-use Rattle.bounds.specs.Lemmas.Instants.{least_after, least_some, least_none, least_up_to, count_first}
+use Rattle.bounds.specs.Lemmas.Instants.{least_after, least_some, least_none, least_up_to}
 use Rattle.findings.specs.Demand.{Load, is_rest}
+use Rattle.findings.specs.Floors.{NoneBetween}
 use Rattle.findings.specs.Points.{is_bend}
 use Rattle.verdicts.specs.Found.{Found}
 use Rattle.findings.specs.Findings.{first_rest, is_tested, is_resting_point, stop, points, load_finding, Says}
@@ -13,62 +15,61 @@ use Rattle.findings.specs.Countable.{StandOn}
 use Rattle.findings.proofs.Turning.{not_before}
 use Rattle.findings.proofs.Amounts.{no_rest_at_start, rests_on}
 
--- what has been seen at an instant on the way: it and all before it are no rests, and the points up to it are counted
-pub record Walked (l : Load) (last before seen : ℕ) : Type 0 where
-  pub within : before ≤ last
-  pub none : (i : ℕ) → i ≤ before → is_rest l i ≡ false
-  pub tally : seen ≡ count (is_tested l last) before
+-- what has been seen at an instant on the way: it and all before it are no rests
+pub record Walked (l : Load) (last late : ℕ) : Type 0 where
+  pub within : late ≤ last
+  pub none : (i : ℕ) → i ≤ late → is_rest l i ≡ false
 
 -- an instant before last that is no test point is no corner
-no_bend : (l : Load) (last t : ℕ) → t < last → is_tested l last t ≡ false → is_bend l.bound l.above t ≡ false
+pub no_bend : (l : Load) (last t : ℕ) → t < last → is_tested l last t ≡ false → is_bend l.bound l.above t ≡ false
 no_bend l last t before none =
     let inner = (or_parts (eqb t last) (ltb t last && is_bend l.bound l.above t) none).1 in
     ⊎_elim (λ (z : ltb t last ≡ false). absurd (both_ways (ltb t last) z (lt-ltb t last before))) (λ e. e) (and_cases (ltb t last) (is_bend l.bound l.above t) inner)
 
--- the walk begins at 0, with no point seen
-pub start : (l : Load) (last : ℕ) → Laws l.bound → StandOn l.frame l.above → 1 ≤ l.own → Walked l last 0 0
-unfolding count
+-- the walk begins at 0
+pub start : (l : Load) (last : ℕ) → Laws l.bound → StandOn l.frame l.above → 1 ≤ l.own → Walked l last 0
 start l last laws stands busy = record {
   within = omega arith;
   none = λ i low. let e : 0 ≡ i = omega arith in subst (λ j. is_rest l j ≡ false) e (no_rest_at_start l laws stands busy);
-  tally = refl;
 }
 
 -- what holds of the instants up to b and of those after it holds of all
 up_to_and_after : {P : Type 0} (b i : ℕ) → (i ≤ b → P) → (b < i → P) → P
 up_to_and_after b i old new = ⊎_elim new old (cases_lt b i)
 
--- the next test point is one point more
-one_point_more : (l : Load) (last before seen point : ℕ) → Walked l last before seen → IsFirst (is_tested l last) before last point → seen + 1 ≡ count (is_tested l last) point
-one_point_more l last before seen point walked next = ap (λ n. n + 1) walked.tally ∙ sym (count_first (is_tested l last) before last point next)
+-- where neither t nor any later instant before it is a rest, the walk goes on to t
+pub skip_to : (l : Load) (last late t : ℕ) → Walked l last late → t ≤ last → NoneBetween l late t → is_rest l t ≡ false → Walked l last t
+skip_to l last late t walked within none here = record {
+  within = within;
+  none = λ i low. up_to_and_after late i (walked.none i) (λ new. ⊎_elim (λ before. none i new before) (λ from. let e : t ≡ i = omega arith in subst (λ j. is_rest l j ≡ false) e here) (cases_lt i t));
+}
 
 module _ (l : Load) (last : ℕ) (laws : Laws l.bound) (stands : StandOn l.frame l.above) (near : last ≤ horizon) where
   -- between the instant reached and the next test point a row that rests goes on resting
-  pub turns_once : (before seen point : ℕ) → Walked l last before seen → IsFirst (is_tested l last) before last point → OnceThenOn (is_rest l) before point
-  turns_once before seen point walked next =
-      rests_on l laws stands before point (omega (arith, next.within)) (walked.none before (omega arith))
+  pub turns_once : (late point : ℕ) → Walked l last late → IsFirst (is_tested l last) late last point → OnceThenOn (is_rest l) late point
+  turns_once late point walked next =
+      rests_on l laws stands late point (omega (arith, next.within)) (walked.none late (omega arith))
       (λ t after early. no_bend l last t (omega (arith, next.within)) (next.none t after early))
 
   -- a test point at which the row does not rest is walked past
-  pub pass : (before seen point : ℕ) → Walked l last before seen → IsFirst (is_tested l last) before last point → is_rest l point ≡ false → Walked l last point (seen + 1)
-  pass before seen point walked next late =
-      let once = turns_once before seen point walked next in
+  pub pass : (late point : ℕ) → Walked l last late → IsFirst (is_tested l last) late last point → is_rest l point ≡ false → Walked l last point
+  pass late point walked next unserved =
+      let once = turns_once late point walked next in
       record {
         within = next.within;
-        none = λ i low. up_to_and_after before i (walked.none i) (λ new. not_before (is_rest l) before point point once (omega arith) late i new low);
-        tally = one_point_more l last before seen point walked next;
+        none = λ i low. up_to_and_after late i (walked.none i) (λ new. not_before (is_rest l) late point point once (omega arith) unserved i new low);
       }
 
 -- a test point is a rest, and the first rest after the instant reached is found
-module _ (l : Load) (last before seen point rest : ℕ) (walked : Walked l last before seen) (next : IsFirst (is_tested l last) before last point)
-    (served : is_rest l point ≡ true) (first : IsFirst (is_rest l) before point rest) where
+module _ (l : Load) (last late point rest : ℕ) (walked : Walked l last late) (next : IsFirst (is_tested l last) late last point)
+    (served : is_rest l point ≡ true) (first : IsFirst (is_rest l) late point rest) where
   -- the first rest after the instant reached is the first of all
   first_of_all : IsFirst (is_rest l) 0 last rest
   first_of_all = record {
     after = omega (arith, first.after);
     within = omega (arith, first.within, next.within);
     holds = first.holds;
-    none = λ i low early. up_to_and_after before i (walked.none i) (λ new. first.none i new early);
+    none = λ i low early. up_to_and_after late i (walked.none i) (λ new. first.none i new early);
   }
 
   -- testing stops at the test point
@@ -78,28 +79,49 @@ module _ (l : Load) (last before seen point rest : ℕ) (walked : Walked l last 
     within = next.within;
     holds = and_from (is_tested l last point) (is_rest l point) next.holds served;
     none = λ i low early.
-        up_to_and_after before i (λ old. and_right (is_tested l last i) (is_rest l i) (walked.none i old)) (λ new. and_left (is_tested l last i) (is_rest l i) (next.none i new early));
+        up_to_and_after late i (λ old. and_right (is_tested l last i) (is_rest l i) (walked.none i old)) (λ new. and_left (is_tested l last i) (is_rest l i) (next.none i new early));
   }
 
-  -- so the finding is the first rest with the points so far and this one
-  pub meets : record { rest = Some rest; points = seen + 1 } ≡ load_finding l last
-  unfolding first_rest stop points
-  meets =
-      let at_rest = least_some (is_rest l) last 0 last rest first_of_all (omega (arith, first_of_all.within)) in
-      let at-stop = least_some (is_resting_point l last) last 0 last point stops_here (omega (arith, next.within)) in
-      let same = one_point_more l last before seen point walked next ∙ ap (λ o. count (is_tested l last) (unwrap_or o last)) (sym at-stop) in
-      λ i. record { rest = sym at_rest i; points = same i }
+  -- so it is the first rest, and that point the one at which testing stops
+  pub meets : first_rest l last ≡ Some rest
+  unfolding first_rest
+  meets = least_some (is_rest l) last 0 last rest first_of_all (omega (arith, first_of_all.within))
 
--- the last instant is reached
-module _ (l : Load) (last seen : ℕ) (walked : Walked l last last seen) where
-  -- the finding is a miss with all points
-  pub misses : record { rest = None; points = seen } ≡ load_finding l last
-  unfolding first_rest stop points
-  misses =
-      let at_rest = least_none (is_rest l) last 0 (λ i low high. walked.none i (omega arith)) in
-      let at-stop = least_none (is_resting_point l last) last 0 (λ i low high. and_right (is_tested l last i) (is_rest l i) (walked.none i (omega arith))) in
-      let same = walked.tally ∙ ap (λ o. count (is_tested l last) (unwrap_or o last)) (sym at-stop) in
-      λ i. record { rest = sym at_rest i; points = same i }
+  pub stops : stop l last ≡ point
+  unfolding stop
+  stops = ap (λ o. unwrap_or o last) (least_some (is_resting_point l last) last 0 last point stops_here (omega (arith, next.within)))
+
+module _ (l : Load) (last : ℕ) where
+  -- an instant that is a rest, and before which there is none, is the first rest
+  pub meets_at : (late t : ℕ) → Walked l last late → late < t → t ≤ last → NoneBetween l late t → is_rest l t ≡ true → first_rest l last ≡ Some t
+  unfolding first_rest
+  meets_at late t walked later within none here =
+      let first : IsFirst (is_rest l) 0 last t = record {
+        after = omega arith;
+        within = within;
+        holds = here;
+        none = λ i low early. up_to_and_after late i (walked.none i) (λ new. none i new early);
+      } in
+      least_some (is_rest l) last 0 last t first (omega arith)
+
+  -- where no instant up to the last is a rest, there is no first one
+  pub misses : ((i : ℕ) → 1 ≤ i → i ≤ last → is_rest l i ≡ false) → first_rest l last ≡ None
+  unfolding first_rest
+  misses none = least_none (is_rest l) last 0 (λ i low high. none i low (omega arith))
+
+  -- a row with no first rest is tested up to the last instant
+  pub stops_last : first_rest l last ≡ None → stop l last ≡ last
+  unfolding first_rest stop
+  stops_last none = at (least (is_rest l) last 1) none (least_up_to (is_rest l) last)
+    where
+      at : (o : Option ℕ) → o ≡ None → MatchOption o ((i : ℕ) → 1 ≤ i → i ≤ last → is_rest l i ≡ false) (IsFirst (is_rest l) 0 last) → unwrap_or (least (is_resting_point l last) last 1) last ≡ last
+      at None _ none = ap (λ o. unwrap_or o last) (least_none (is_resting_point l last) last 0 (λ i low high. and_right (is_tested l last i) (is_rest l i) (none i low (omega arith))))
+      at (Some t) e _ = absurd (none-some t (sym e))
+
+  -- what a first rest is
+  pub first_is : (t : ℕ) → first_rest l last ≡ Some t → IsFirst (is_rest l) 0 last t
+  unfolding first_rest
+  first_is t e = MatchOption-at_some _ _ t e (least_up_to (is_rest l) last)
 
 -- what a finding says holds of the finding that is defined
 module _ (l : Load) (last : ℕ) (laws : Laws l.bound) (stands : StandOn l.frame l.above) (busy : 1 ≤ l.own) (near : last ≤ horizon) where
@@ -118,8 +140,8 @@ module _ (l : Load) (last : ℕ) (laws : Laws l.bound) (stands : StandOn l.frame
       let (q, next) = next_test n within in
       let late : is_rest l q ≡ false = ⊎_elim (λ (z : is_tested l last q ≡ false). absurd (both_ways (is_tested l last q) z next.holds)) (λ e. e)
       (and_cases (is_tested l last q) (is_rest l q) (none q (omega (arith, next.after)) next.within)) in
-      let walked : Walked l last n (count (is_tested l last) n) = record { within = omega arith; none = no_rest none n (omega arith); tally = refl } in
-      (pass l last laws stands near n _ q walked next late).none i (omega (arith, next.after))
+      let walked : Walked l last n = record { within = omega arith; none = no_rest none n (omega arith) } in
+      (pass l last laws stands near n q walked next late).none i (omega (arith, next.after))
 
   pub finding_says : Says l last (load_finding l last)
   unfolding first_rest stop points
@@ -135,3 +157,21 @@ module _ (l : Load) (last : ℕ) (laws : Laws l.bound) (stands : StandOn l.frame
   -- and so of every finding that is it
   pub found_says : (f : Found) → f ≡ load_finding l last → Says l last f
   found_says f is = subst (Says l last) (sym is) finding_says
+
+  -- the first rest is followed by the test point at which testing stops, with no other between
+  pub stops_after : (t : ℕ) → first_rest l last ≡ Some t → IsFirst (is_tested l last) (t - 1) last (stop l last)
+  stops_after t e =
+      let first = first_is l last t e in
+      let (q, next) = next_test (t - 1) (omega (arith, first.after, first.within)) in
+      let walked : Walked l last (t - 1) = record {
+        within = omega (arith, first.within);
+        none = λ i low. ⊎_elim (λ (some : 0 < i). first.none i some (omega (arith, first.after))) (λ none. (start l last laws stands busy).none i none) (cases_lt 0 i);
+      } in
+      let on = turns_once l last laws stands near (t - 1) q walked next t q (omega (arith, first.after)) (omega (arith, first.after, next.after)) (omega arith) first.holds in
+      let here : IsFirst (is_rest l) (t - 1) q t = record {
+        after = omega (arith, first.after);
+        within = omega (arith, first.after, next.after);
+        holds = first.holds;
+        none = λ i low early. absurd (omega (arith, first.after));
+      } in
+      subst (IsFirst (is_tested l last) (t - 1) last) (sym (stops l last (t - 1) q t walked next on here)) next

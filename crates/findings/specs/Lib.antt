@@ -1,8 +1,10 @@
 pub mod Demand
+pub mod Floors
 pub mod Points
 pub mod Findings
 pub mod Tables
 pub mod Asking
 pub mod Countable
 pub mod Loads
+pub mod Counting
 pub mod Exact

@@ -2,7 +2,7 @@
 ghost use Rattle.std.specs.Prelude.{◌≡◌, ◌<◌, ◌≤◌, fold, min};
 ghost use Rattle.std.specs.List.{filter_map};
 ghost use Rattle.rows.specs.Times.{horizon};
-ghost use Rattle.bounds.specs.Answering.{corner_answered};
+ghost use Rattle.bounds.specs.Answering.{corner_after};
 ghost use Rattle.bounds.specs.Instants.{IsFirst};
 ghost use Rattle.findings.specs.Asking.{most_above};
 ghost use Rattle.findings.specs.Demand.{load, above_demand, is_rest};
@@ -39,15 +39,14 @@ impl<'a, B: Bound> Load<'a, B> {
             .sum()
     }
 
-    // The least of an instant and the next corners of the rows above.
-    fn nearest(&self, after: u32, last: u32) -> u32
+    // The least of an instant and the next corners of the rows above: no flags are set.
+    fn nearest_corner(&self, after: u32, last: u32) -> u32
         ensures { result ≡ fold min last (filter_map
-            (λ r. corner_answered (B.meaning self.now.bound.now) self.now.frame r after)
-            self.now.above.now) }
+            (λ r. corner_after (B.meaning self.now.bound.now) r after) self.now.above.now) }
     {
         self.above
             .iter()
-            .filter_map(|row| self.bound.next_corner(self.frame, row, after))
+            .filter_map(|row| self.bound.mark(row, after, &mut []))
             .fold(last, |next, corner| next.min(corner))
     }
 
@@ -66,6 +65,6 @@ impl<'a, B: Bound> Load<'a, B> {
         requires near { last ≤ horizon }
         ensures { IsFirst (is_tested (load_of self.now) last) after last result }
     {
-        self.nearest(after, last)
+        self.nearest_corner(after, last)
     }
 }

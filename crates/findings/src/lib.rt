@@ -2,11 +2,14 @@
 #![tactic(auto)]
 
 mod asking;
+mod counting;
 mod demands;
+mod flags;
 mod frames;
 mod loads;
 mod recounting;
 mod searching;
+mod skipping;
 
 pub use asking::{find, response_time};
 pub use recounting::{check_size, recount};

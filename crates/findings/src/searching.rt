@@ -3,7 +3,7 @@ ghost use Rattle.std.specs.Prelude.{IsTrue, ◌≡◌, ◌<◌, ◌≤◌};
 ghost use Rattle.rows.specs.Times.{horizon};
 ghost use Rattle.findings.specs.Demand.{is_rest};
 ghost use Rattle.verdicts.specs.Found.{tells};
-ghost use Rattle.findings.specs.Findings.{load_finding, Says};
+ghost use Rattle.findings.specs.Findings.{first_rest, load_finding, Says};
 ghost use Rattle.bounds.specs.Instants.{IsFirst, OnceThenOn};
 ghost use Rattle.findings.specs.Loads.{load_of};
 
@@ -34,8 +34,32 @@ impl<'a, B: Bound> Load<'a, B> {
         some
     }
 
-    // The finding about a row with this load that may rest up to `last`. From test point to test
-    // point; at the first at which the row rests, the first rest lies after the point before it.
+    // The first rest of a row with this load that may rest up to `last`. Where what is sure to be
+    // demanded is served, and yet no rest, the next test point tells whether one lies up to it.
+    fn first_rest(&self, last: u32) -> Option<u32>
+        requires busy { 1 ≤ self.now.own }
+        requires near { last ≤ horizon }
+        ensures { result ≡ first_rest (load_of self.now) last }
+    {
+        let mut late = 0;
+        while late < last {
+            let at = self.skip(late, last)?;
+            if self.is_rest(at) {
+                return Some(at);
+            }
+            if at == last {
+                return None;
+            }
+            let point = self.next_point(at, last);
+            if self.is_rest(point) {
+                return Some(self.bisect(at, point));
+            }
+            late = point;
+        }
+        None
+    }
+
+    // The finding about a row with this load that may rest up to `last`.
     pub(crate) fn search(&self, last: u32) -> Finding
         requires busy { 1 ≤ self.now.own }
         requires some { 1 ≤ last }
@@ -43,23 +67,15 @@ impl<'a, B: Bound> Load<'a, B> {
         ensures answered { tells result ≡ load_finding (load_of self.now) last }
         ensures says { Says (load_of self.now) last (tells result) }
     {
-        let mut points = 0;
-        let mut before = 0;
-        while before < last {
-            let point = self.next_point(before, last);
-            points += 1;
-            if self.is_rest(point) {
-                let rest = self.bisect(before, point);
-                return Finding {
-                    verdict: Verdict::Meets(rest),
-                    points,
-                };
-            }
-            before = point;
-        }
-        Finding {
-            verdict: Verdict::Misses,
-            points,
+        match self.first_rest(last) {
+            Some(rest) => Finding {
+                verdict: Verdict::Meets(rest),
+                points: self.points(rest),
+            },
+            None => Finding {
+                verdict: Verdict::Misses,
+                points: self.points(last),
+            },
         }
     }
 }
