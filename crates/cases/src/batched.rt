@@ -32,6 +32,16 @@ fn amounts_in_batches(rt: HostRuntime) -> Result<(), Fail> {
     Ok(())
 }
 
+// The corners of A are 4, 8 and so on, whatever the batches.
+#[test]
+fn flags_in_batches(rt: HostRuntime) -> Result<(), Fail> {
+    let a = row(1, 4, 4, 0)?;
+    let mut flags = [false; 5];
+    assert_eq!(rt; Batches::new(1, 2)?.mark(&a, 3, &mut flags), Some(12));
+    assert_eq!(rt; flags, [true, false, false, false, true]);
+    Ok(())
+}
+
 // The accuracy of the bound that is made with k and a batch size.
 fn made(k: u32, size: u32) -> Result<u32, BatchError> {
     Ok(Batches::new(k, size)?.accuracy())
