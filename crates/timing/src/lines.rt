@@ -1,0 +1,75 @@
+// The lines of works.
+use crate::works::{Action, Work};
+use anyhow::{Context, bail, ensure};
+use bounds::{LinearTail, Supplied};
+use rows::Row;
+use std::alloc::Global;
+use tallies::{numbers, row_list};
+
+/// A line: a work that has no table yet, the frame of a table, or a row.
+#[derive(Debug, Drop)]
+pub(crate) enum Line {
+    Work(Work),
+    Table(u32),
+    Row(Row),
+}
+
+impl Line {
+    /// The line that a text tells.
+    pub(crate) fn parse(alloc: Global, text: &str) -> anyhow::Result<Line> {
+        match text.split_once(' ') {
+            Some(("work", rest)) => Ok(Line::Work(work(alloc, rest)?)),
+            Some(("table", rest)) => Ok(Line::Table(rest.parse().context("reading a frame")?)),
+            Some(("row", rest)) => Ok(Line::Row(row(alloc, rest)?)),
+            _ => bail!("a line begins with work, table or row: {text:?}"),
+        }
+    }
+}
+
+// A work in five words: name, action, bound, accuracy and rounds.
+fn work(alloc: Global, text: &str) -> anyhow::Result<Work> {
+    let mut words = text.split_whitespace();
+    let name = words.next().context("no name")?;
+    let action = action(words.next().context("no action")?)?;
+    let kind = words.next().context("no bound")?;
+    let accuracy = words.next().context("no accuracy")?;
+    let rounds = words.next().context("no rounds")?;
+    ensure!(words.next().is_none(), "more than five words: {text:?}");
+    Ok(Work {
+        name: name.to_string(alloc)?,
+        action,
+        bound: bound(kind, accuracy)?,
+        rounds: rounds.parse().context("reading the rounds")?,
+        tables: Vec::new(alloc),
+    })
+}
+
+// The action that a word names: `survey`, or `swap-` and a rank.
+fn action(word: &str) -> anyhow::Result<Action> {
+    match word.split_once('-') {
+        None if word == "survey" => Ok(Action::Survey),
+        Some(("swap", rank)) => Ok(Action::Swap(rank.parse().context("reading a rank")?)),
+        _ => bail!("an action is survey or swap-RANK: {word:?}"),
+    }
+}
+
+// The bound that a word and an accuracy name.
+fn bound(kind: &str, accuracy: &str) -> anyhow::Result<Supplied> {
+    match kind {
+        "exact" => Ok(Supplied::ExactSteps),
+        "linear" => {
+            let accuracy = accuracy.parse().context("reading the accuracy")?;
+            Ok(Supplied::LinearTail(LinearTail::new(accuracy)?))
+        }
+        _ => bail!("a bound is exact or linear: {kind:?}"),
+    }
+}
+
+// The row of four numbers.
+fn row(alloc: Global, text: &str) -> anyhow::Result<Row> {
+    let list = row_list(alloc, &numbers(alloc, text)?)?;
+    let [numbers] = &*list else {
+        bail!("a row has four numbers: {text:?}");
+    };
+    Ok(numbers.judge(0)?)
+}

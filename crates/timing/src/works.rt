@@ -1,0 +1,59 @@
+// Works: what is done with tables, by which bound, and how often.
+use crate::lines::Line;
+use anyhow::{Context, bail};
+use bounds::Supplied;
+use rows::Row;
+use std::alloc::Global;
+
+/// What is done with the tables of a work: each is surveyed, or the one table stands on a bench on which
+/// the row at a rank is dismissed and admitted again.
+#[derive(Clone, Copy, PartialEq, Eq, Debug)]
+pub(crate) enum Action {
+    Survey,
+    Swap(usize),
+}
+
+/// A frame and rows in rank order.
+#[derive(Debug, Drop)]
+pub(crate) struct Table {
+    pub(crate) frame: u32,
+    pub(crate) rows: Vec<Row>,
+}
+
+/// A work: its rounds are timed as one.
+#[derive(Debug, Drop)]
+pub(crate) struct Work {
+    pub(crate) name: String,
+    pub(crate) action: Action,
+    pub(crate) bound: Supplied,
+    pub(crate) rounds: u32,
+    pub(crate) tables: Vec<Table>,
+}
+
+impl Work {
+    /// How many rows its tables have.
+    pub(crate) fn rows(&self) -> usize {
+        self.tables.iter().fold(
+            0,
+            |rows: usize, table| rows.saturating_add(table.rows.len()),
+        )
+    }
+
+    /// Adds what a line after that of the work tells: a table, or a row of the last one.
+    pub(crate) fn add(&mut self, alloc: Global, line: &Line) -> anyhow::Result<()> {
+        match line {
+            Line::Table(frame) => {
+                self.tables.push(Table {
+                    frame: *frame,
+                    rows: Vec::new(alloc),
+                })?;
+            }
+            Line::Row(row) => {
+                let table = self.tables.last_mut().context("no table before its rows")?;
+                table.rows.push(*row)?;
+            }
+            Line::Work(_) => bail!("a work has no works"),
+        }
+        Ok(())
+    }
+}
