@@ -1,0 +1,65 @@
+-- A table of tasks, and the text that it is read from.
+use Rattle.std.specs.Prelude.{◌≡◌, ℕ, List, [], ◌∷◌, ◌++◌, map, filter, Option, None, Some}
+use Rattle.std.specs.String.{string_bytes}
+use Rattle.csv.specs.Reading.{AreRecords, strip_bom}
+use Rattle.csv.specs.declared.parser.State.TheVariants as st
+use Rattle.rows.specs.declared.tasks.Numbers.{Numbers}
+use Rattle.task_tables.specs.declared.columns.Column.{Column}
+use Rattle.task_tables.specs.declared.forms.Form.{Form}
+use Rattle.task_tables.specs.declared.tables.TaskTable.{TaskTable}
+use Rattle.task_tables.specs.Columns.{IsHeading}
+use Rattle.task_tables.specs.Forms.{config_of, fields_in, form_of, says}
+use Rattle.task_tables.specs.Tasks.{name_of, numbers_of}
+
+-- the columns of a table, the numbers of its tasks, and their names as bytes
+abbrev pub table_columns : TaskTable → List Column
+table_columns t = t.columns.items
+
+abbrev pub table_numbers : TaskTable → List Numbers
+table_numbers t = t.numbers.items
+
+abbrev pub table_names : TaskTable → List (List ℕ)
+table_names t = map string_bytes t.names.items
+
+-- the task of a record stands behind those that a table had
+pub record Takes (old new : TaskTable) (fields : List (List ℕ)) : Type 0 where
+  pub columns : table_columns new ≡ table_columns old
+  pub task : Numbers
+  pub reads : numbers_of (table_columns old) fields ≡ Some task
+  pub numbers : table_numbers new ≡ table_numbers old ++ task ∷ []
+  pub names : table_names new ≡ table_names old ++ name_of (table_columns old) fields ∷ []
+
+-- a table is what some rows say: the first is its heading, and each other is a task
+pub record IsTable (rows : List (List (List ℕ))) (t : TaskTable) : Type 0 where
+  pub headings : List (List ℕ)
+  pub tasks : List (List (List ℕ))
+  pub parts : rows ≡ headings ∷ tasks
+  pub heading : IsHeading headings (table_columns t)
+  pub numbers : map (numbers_of (table_columns t)) tasks ≡ map (λ n. Some n) (table_numbers t)
+  pub names : map (name_of (table_columns t)) tasks ≡ table_names t
+
+-- the same where there is a table; else no row says anything
+abbrev pub AreRead : List (List (List ℕ)) → Option TaskTable → Type 0
+AreRead rows None = rows ≡ []
+AreRead rows (Some t) = IsTable rows t
+
+-- the rows of a text: of each record that says something, the fields that count
+abbrev pub rows_in : Form → List (List (List ℕ)) → List (List (List ℕ))
+rows_in form records = filter says (map (fields_in form) records)
+
+-- a table is read from some bytes: it is what the rows of their records say
+pub record IsReadFrom (bytes : List ℕ) (t : TaskTable) : Type 0 where
+  pub records : List (List (List ℕ))
+  pub are_records : AreRecords (config_of (form_of bytes)) st.StartRecord (strip_bom bytes) records
+  pub table : IsTable (rows_in (form_of bytes) records) t
+
+-- bytes that a reader may hold: all that it is known to hold; any, where nothing is known of it
+abbrev pub MayHold : Option (List ℕ) → List ℕ → Type 0
+MayHold None bytes = Unit {0}
+MayHold (Some known) bytes = bytes ≡ known
+
+-- a table is read from all that a reader held
+pub record ReadsAll (held : Option (List ℕ)) (t : TaskTable) : Type 0 where
+  pub bytes : List ℕ
+  pub all : MayHold held bytes
+  pub table : IsReadFrom bytes t

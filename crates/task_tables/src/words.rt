@@ -1,0 +1,96 @@
+// The words for what cannot be taken.
+
+use crate::misreads::{Expected, Misread, Refused, Spot};
+use std::fmt;
+
+// What was expected, as docs/PROGRAMS.md writes it: "a number from 0 to 4294967295".
+impl fmt::Display for Expected {
+    fn fmt<W: fmt::Write>(&self, f: &mut fmt::Formatter<W>) -> fmt::Result {
+        match self {
+            Expected::HeadingLine => write!(f, "a heading with work, deadline and period"),
+            Expected::Heading => write!(f, "name, work, deadline, period or jitter"),
+            Expected::OtherHeading => write!(f, "each heading once"),
+            Expected::Headings => write!(f, "work, deadline and period"),
+            Expected::Fields(count) => write!(f, "{count}"),
+            Expected::Tasks(most) => write!(f, "at most {most}"),
+            Expected::Number => write!(f, "a number from 0 to 4294967295"),
+            Expected::Text => write!(f, "UTF-8"),
+            Expected::Work => write!(f, "at least 1"),
+            Expected::Window { deadline, jitter } => write_window(f, *deadline, *jitter),
+            Expected::Deadline { period } => write!(f, "at most the period {period}"),
+            Expected::Period { horizon } => write!(f, "at most {horizon}"),
+            Expected::Divisor => write!(f, "a divisor of the frame"),
+        }
+    }
+}
+
+// The work that fits between a jitter and a deadline.
+fn write_window<W: fmt::Write>(
+    f: &mut fmt::Formatter<W>,
+    deadline: u32,
+    jitter: u32,
+) -> fmt::Result {
+    match deadline.checked_sub(jitter) {
+        Some(most) => write!(
+            f,
+            "at most {most}, the deadline {deadline} less the jitter {jitter}"
+        ),
+        None => write!(
+            f,
+            "a work of at least 1 that fits: the deadline {deadline} is below the jitter {jitter}"
+        ),
+    }
+}
+
+impl Expected {
+    // How what stands in its place is said to stand there.
+    fn stands(self) -> &'static str {
+        match self {
+            Expected::Fields(_) | Expected::Text => "stand there",
+            Expected::OtherHeading => "stands there again",
+            _ => "stands there",
+        }
+    }
+}
+
+// What stands somewhere: "line 4, field 3 (deadline): "x7" stands there, expected .."
+impl fmt::Display for Spot {
+    fn fmt<W: fmt::Write>(&self, f: &mut fmt::Formatter<W>) -> fmt::Result {
+        let line = self.line;
+        write!(f, "line {line}")?;
+        if let Some(field) = self.field {
+            write!(f, ", field {field}")?;
+        }
+        if let Some(column) = self.column {
+            write!(f, " ({column})")?;
+        }
+        let stood = self.stood.as_str();
+        let stands = self.expected.stands();
+        let expected = self.expected;
+        write!(f, ": {stood} {stands}, expected {expected}")
+    }
+}
+
+// A refusal: "refused 4 idle row at rank 1".
+impl fmt::Display for Refused {
+    fn fmt<W: fmt::Write>(&self, f: &mut fmt::Formatter<W>) -> fmt::Result {
+        let number = self.refusal.number();
+        let words = self.refusal.words();
+        write!(f, "refused {number} {words}")?;
+        match self.rank {
+            Some(rank) => write!(f, " at rank {rank}"),
+            None => Ok(()),
+        }
+    }
+}
+
+impl fmt::Display for Misread {
+    fn fmt<W: fmt::Write>(&self, f: &mut fmt::Formatter<W>) -> fmt::Result {
+        match (&self.spot, &self.refused) {
+            (Some(spot), Some(refused)) => write!(f, "{spot}: {refused}"),
+            (Some(spot), None) => write!(f, "{spot}"),
+            (None, Some(refused)) => write!(f, "{refused}"),
+            (None, None) => Ok(()),
+        }
+    }
+}
