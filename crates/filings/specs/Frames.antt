@@ -1,0 +1,42 @@
+-- The common frame of a table.
+use Rattle.std.specs.Prelude.{IsTrue, ◌≡◌, ℕ, ◌*◌, ◌%◌, ◌≤◌, Bool, false, List, Option, ◌==◌}
+use Rattle.std.specs.List.{list_all}
+use Rattle.std.specs.Int.{IsGcd}
+use Rattle.rows.specs.declared.tasks.Numbers.{Numbers}
+use Rattle.rows.specs.Times.{horizon, is_frame}
+use Rattle.bounds.specs.Instants.{least}
+
+-- m is a common multiple of the periods of a table: every period divides it
+abbrev pub is_common : List Numbers → ℕ → Bool
+is_common table m = list_all (λ n. m % n.period == 0) table
+
+-- the common frame of a table: the least common multiple of its periods that lies from 1 to the horizon, if there is one
+unfoldable pub common_frame : List Numbers → Option ℕ
+common_frame table = least (is_common table) horizon 1
+
+-- h is the common frame: a frame and a common multiple of the periods, which divides every other
+pub record IsCommonFrame (table : List Numbers) (h : ℕ) : Type 0 where
+  pub frame : IsTrue (is_frame h)
+  pub common : IsTrue (is_common table h)
+  pub each : (m : ℕ) → IsTrue (is_common table m) → m % h ≡ 0
+
+-- there is none: no number from 1 to the horizon is a common multiple of the periods
+abbrev pub HasNoFrame : List Numbers → Type 0
+HasNoFrame table = (m : ℕ) → 1 ≤ m → m ≤ horizon → is_common table m ≡ false
+
+-- l is a frame and a common multiple of two numbers, which divides every other
+pub record IsJoined (a b l : ℕ) : Type 0 where
+  pub frame : IsTrue (is_frame l)
+  pub first : l % a ≡ 0
+  pub second : l % b ≡ 0
+  pub each : (m : ℕ) → m % a ≡ 0 → m % b ≡ 0 → m % l ≡ 0
+
+-- no number from 1 to the horizon is a common multiple of two numbers
+abbrev pub CannotBeJoined : ℕ → ℕ → Type 0
+CannotBeJoined a b = (m : ℕ) → 1 ≤ m → m ≤ horizon → m % a ≡ 0 → m % b ≡ 0 → ⊥
+
+-- g is the greatest common divisor of two numbers, also after both are multiplied: what divides a × k and b × k divides
+-- g × k
+pub record DividesBoth (a b g : ℕ) : Type 0 where
+  pub greatest : IsGcd a b g
+  pub multiplied : (p k : ℕ) → a * k % p ≡ 0 → b * k % p ≡ 0 → g * k % p ≡ 0

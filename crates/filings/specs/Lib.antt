@@ -1,0 +1,4 @@
+pub mod Frames
+pub mod Checks
+pub mod Filings
+pub mod Sheets

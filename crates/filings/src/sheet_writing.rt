@@ -1,0 +1,79 @@
+// The sheet of a table of numbers.
+ghost use Rattle.std.specs.Prelude.{◌≡◌, ◌+◌, ◌*◌, ◌≤◌, length, map, MatchResult, take};
+ghost use Rattle.rows.specs.Answers.{answer, checked, gives};
+ghost use Rattle.rows.specs.Lists.{written};
+ghost use Rattle.rows.specs.Judging.{plain, rows_of};
+ghost use Rattle.leaves.specs.declared.entries.Entry.{Entry};
+ghost use Rattle.leaves.specs.Entries.{row_size};
+ghost use Rattle.leaves.specs.Headings.{bound_numbers};
+ghost use Rattle.reading.specs.Phases.{place_of, rows_in, frame_in};
+ghost use Rattle.writing.specs.Filing.{FilesAll};
+ghost use Rattle.sheets.specs.Tables.{Table, sheet_bytes};
+ghost use Rattle.sheets.specs.Reading.{Fits};
+ghost use Rattle.filings.specs.Checks.{accuracy_checks, frame_for, IsJudged};
+ghost use Rattle.filings.specs.Sheets.{bound_pair, sheet_checks, sheet_length, heading_for, IsTableOf};
+
+use crate::judging::{check_frame, judge};
+use bounds::{LinearTail, Supplied};
+use leaves::{HEADING_SIZE, Heading, ROW_SIZE};
+use rows::{Fault, Numbers, Refusal};
+use writing::{RowsLeaf, begin};
+
+/// Writes the sheet of a table at the first byte of a buffer, and no other byte (docs/FORMAT.md,
+/// Sheets). Its heading tells the frame given, or else the common frame of the periods, and the
+/// linear tail of the accuracy given, or else exact steps. Answers the length of the sheet in bytes.
+///
+/// Refused as `count` is, with 3, bad accuracy, where an accuracy is given; and last with 19, short
+/// buffer, at 0 (docs/REFUSALS.md). A refusal leaves the buffer as it was.
+pub fn write_sheet(
+    frame: Option<u32>,
+    accuracy: Option<u32>,
+    table: &[Numbers],
+    buffer: &mut [u8],
+) -> Result<usize, Fault>
+    ensures answered { answer (λ n. n) result
+        ≡ checked (sheet_checks frame accuracy table.now (length buffer.old))
+        (sheet_length table.now) }
+    ensures written { MatchResult result (λ n. (t : Table)
+        × IsTableOf (heading_for (frame_for frame table.now) accuracy) table.now t
+        × (buffer.new ≡ written buffer.old 0 (sheet_bytes t))
+        × Fits (take n buffer.new) (gives t))
+        (λ _. buffer.new ≡ buffer.old) }
+{
+    check_frame(frame)?;
+    let bound = bound_for(accuracy)?;
+    let frame = judge(frame, table)?;
+    if buffer.len() < 1 + HEADING_SIZE + (1 + ROW_SIZE) * table.len() {
+        return Err(Refusal::ShortBuffer.at(0));
+    }
+    let heading = Heading { frame, bound };
+    let leaf = begin(heading.numbers(), buffer)?;
+    Ok(put_rows(leaf, table, buffer).phase().place() as usize)
+}
+
+// The linear tail of an accuracy that is given, or else exact steps.
+fn bound_for(accuracy: Option<u32>) -> Result<Supplied, Fault>
+    ensures { answer bound_numbers result
+        ≡ checked (accuracy_checks accuracy) (bound_pair accuracy) }
+{
+    match accuracy {
+        Some(accuracy) => Ok(Supplied::LinearTail(LinearTail::new(accuracy)?)),
+        None => Ok(Supplied::ExactSteps),
+    }
+}
+
+// Writes the rows of a table that was judged behind the heading.
+fn put_rows(leaf: RowsLeaf, table: &[Numbers], buffer: &mut [u8]) -> RowsLeaf
+    requires empty { rows_in leaf ≡ 0 }
+    requires judged { IsJudged (frame_in leaf) table.now }
+    requires room { place_of leaf + (1 + row_size) * length table.now ≤ length buffer.old }
+    ensures filed { FilesAll leaf buffer.old (map Entry.Row (rows_of table.now)) result buffer.new }
+    ensures numbers { map plain (rows_of table.now) ≡ table.now }
+{
+    let mut leaf = leaf;
+    for numbers in table {
+        let row = numbers.judge(0).unwrap();
+        leaf.row(&row, buffer).unwrap();
+    }
+    leaf
+}
