@@ -1,0 +1,7 @@
+//! Tables of cells as CSV.
+#![tactic(auto)]
+
+mod records;
+mod writing;
+
+pub use writing::to_csv;

@@ -1,0 +1,5 @@
+pub mod Aligned
+pub mod Cells
+pub mod Columns
+pub mod Lines
+pub mod Shown
