@@ -1,0 +1,18 @@
+//! A picture of one row's demand over time, as SVG: in exact steps and by a linear tail, with the test
+//! points and the first rests. Long spans are thinned without losing a corner that decides.
+#![tactic(auto)]
+
+mod axes;
+mod curves;
+mod drawings;
+mod escaping;
+mod layout;
+mod legends;
+mod marks;
+mod plotting;
+mod points;
+mod scales;
+mod thinning;
+
+pub use drawings::{Drawing, draw};
+pub use thinning::{COLUMNS, instants};
