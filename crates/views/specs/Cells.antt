@@ -1,0 +1,92 @@
+-- What rows and findings tell, as texts for people and as fields for programs.
+use Rattle.std.specs.Prelude.{ℕ, ◌+◌, ◌-◌, ◌==◌, List, [], ◌∷◌, ◌++◌, Some, None, Option, decimal, codes, if◌then◌else◌}
+use Rattle.std.specs.Option.{option_map, option_map_or, is_some}
+use Rattle.rows.specs.declared.tasks.Numbers.{Numbers}
+use Rattle.verdicts.specs.Found.{Found}
+use Rattle.leaves.specs.declared.entries.HeadingNumbers.{HeadingNumbers}
+use Rattle.grids.specs.declared.cells.Cell.{Cell}
+use Rattle.grids.specs.declared.cells.Cell.TheVariants.{Nothing, Truth, Number}
+use Rattle.grids.specs.Shown.{dash, shown_text}
+
+-- the cell of a number, where there is one
+abbrev pub number_or_nothing : Option ℕ → Cell
+number_or_nothing number = option_map_or (λ n. Number n) number Nothing
+
+-- a number as a person reads it, where there is one, and a dash where there is none
+abbrev pub number_text : Option ℕ → List ℕ
+number_text number = option_map_or decimal number dash
+
+-- the first rest as a person reads it, and the word that the row misses where there is none
+abbrev pub rest_text : Option ℕ → List ℕ
+rest_text rest = option_map_or decimal rest (codes "misses")
+
+-- a number as a program reads it, where there is one, and nothing where there is none
+abbrev pub number_field : Option ℕ → List ℕ
+number_field number = option_map_or decimal number []
+
+-- the response of a row that meets: the first rest plus the jitter
+abbrev pub response_of : Numbers → Found → Option ℕ
+response_of n f = option_map (λ rest. rest + n.jitter) f.rest
+
+-- the slack of a row that meets: the deadline less the response
+abbrev pub slack_of : Numbers → Found → Option ℕ
+slack_of n f = option_map (λ response. n.deadline - response) (response_of n f)
+
+-- how much later the second of two first rests is than the first, where there are both
+abbrev pub gap_of : Option ℕ → Option ℕ → Option ℕ
+gap_of (Some first) (Some second) = Some (second - first)
+gap_of (Some first) None = None
+gap_of None second = None
+
+-- the four numbers of a row: work, deadline, period and jitter
+abbrev pub numbers_texts : Numbers → List (List ℕ)
+numbers_texts n = decimal n.work ∷ decimal n.deadline ∷ decimal n.period ∷ decimal n.jitter ∷ []
+
+-- the same as cells
+abbrev pub number_cells : Numbers → List Cell
+number_cells n = Number n.work ∷ Number n.deadline ∷ Number n.period ∷ Number n.jitter ∷ []
+
+-- a row of a leaf as a person reads it: its rank and numbers, the first rest, the response and the points tested
+abbrev pub leaf_texts : ℕ → Numbers → Found → List (List ℕ)
+leaf_texts rank n f =
+    decimal rank ∷ (numbers_texts n ++ rest_text f.rest ∷ number_text (response_of n f) ∷ decimal f.points ∷ [])
+
+-- a row that was counted twice as a person reads it: its rank, name and numbers, the first rest in exact steps, the
+-- response and the slack, the first rest by the linear tail and how much later it is, and the points tested by each count
+abbrev pub counted_texts : ℕ → List ℕ → Numbers → Found → Found → List (List ℕ)
+counted_texts rank name n exact bounded =
+    decimal rank ∷ shown_text name ∷ (numbers_texts n
+    ++ rest_text exact.rest ∷ number_text (response_of n exact) ∷ number_text (slack_of n exact)
+    ∷ rest_text bounded.rest ∷ number_text (gap_of exact.rest bounded.rest)
+    ∷ decimal exact.points ∷ decimal bounded.points ∷ [])
+
+-- what a program is told of a heading: the name of the leaf, no refusal, the words for the bound, the accuracy of a
+-- linear tail, and the frame
+abbrev pub heading_fields : List ℕ → HeadingNumbers → List (List ℕ)
+heading_fields name h =
+    name ∷ [] ∷ [] ∷ [] ∷ []
+    ∷ (if h.bound == 0 then codes "exact steps" else codes "linear tail")
+    ∷ (if h.bound == 0 then [] else decimal h.accuracy)
+    ∷ decimal h.frame ∷ []
+
+-- what a program is told of a row below its heading: its rank and numbers, whether it meets, the first rest, the
+-- response and the points tested
+abbrev pub row_fields : ℕ → Numbers → Found → List (List ℕ)
+row_fields rank n f =
+    decimal rank ∷ (numbers_texts n
+    ++ (if is_some f.rest then codes "true" else codes "false")
+    ∷ number_field f.rest ∷ number_field (response_of n f) ∷ decimal f.points ∷ [])
+
+-- the same as cells
+abbrev pub row_cells : ℕ → Numbers → Found → List Cell
+row_cells rank n f =
+    Number rank ∷ (number_cells n
+    ++ Truth (is_some f.rest) ∷ number_or_nothing f.rest ∷ number_or_nothing (response_of n f) ∷ Number f.points ∷ [])
+
+-- the record of a row: what is told of the heading, and then of the row
+abbrev pub record_fields : List ℕ → HeadingNumbers → ℕ → Numbers → Found → List (List ℕ)
+record_fields name h rank n f = heading_fields name h ++ row_fields rank n f
+
+-- the record of a damaged leaf: its name, the refusal by number and words, its place, and the bytes around the place
+abbrev pub damage_fields : List ℕ → ℕ → List ℕ → ℕ → List ℕ → List (List ℕ)
+damage_fields name number words at around = name ∷ decimal number ∷ words ∷ decimal at ∷ around ∷ []

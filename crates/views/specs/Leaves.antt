@@ -1,0 +1,41 @@
+-- What is read as leaves.
+use Rattle.std.specs.Prelude.{◌≡◌, ℕ, ◌+◌, ◌<◌, Bool, true, false, List, Option, map}
+use Rattle.std.specs.Option.{option_map}
+use Rattle.rows.specs.Answers.{gives, refuses}
+use Rattle.rows.specs.Judging.{plain}
+use Rattle.rows.specs.Lists.{at_rank}
+use Rattle.leaves.specs.Contents.{Contents}
+use Rattle.reading.specs.Whole.{Fits}
+use Rattle.task_tables.specs.Tables.{MayHold}
+
+-- bytes are a leaf, or they are refused
+abbrev pub IsLeaf : Bool → List ℕ → Type 0
+IsLeaf true bytes = (c : Contents) × Fits bytes (gives c)
+IsLeaf false bytes = (number : ℕ) × (at : ℕ) × Fits bytes (refuses number at)
+
+-- so it is with all that a reader held
+pub record HeldLeaf (held : Option (List ℕ)) (is_leaf : Bool) : Type 0 where
+  pub bytes : List ℕ
+  pub all : MayHold held bytes
+  pub leaf : IsLeaf is_leaf bytes
+
+-- contents have one table: one frame, and the same rows in the same order
+pub record HaveOneTable (c d : Contents) : Type 0 where
+  pub frame : c.heading.frame ≡ d.heading.frame
+  pub rows : map plain c.rows ≡ map plain d.rows
+
+-- they have the same row at each rank up to one
+abbrev pub AreSameUpTo : ℕ → Contents → Contents → Type 0
+AreSameUpTo n c d = (k : ℕ) → k < n → option_map plain (at_rank (k + 1) c.rows) ≡ option_map plain (at_rank (k + 1) d.rows)
+
+-- what two readers held are leaves of one table
+pub record HeldOneTable (first second : Option (List ℕ)) : Type 0 where
+  pub one : List ℕ
+  pub other : List ℕ
+  pub all_one : MayHold first one
+  pub all_other : MayHold second other
+  pub contents_one : Contents
+  pub contents_other : Contents
+  pub fits_one : Fits one (gives contents_one)
+  pub fits_other : Fits other (gives contents_other)
+  pub table : HaveOneTable contents_one contents_other

@@ -1,0 +1,88 @@
+// A task table read and counted twice.
+ghost use Rattle.std.specs.Prelude.{IfOk};
+ghost use Rattle.task_tables.specs.Tables.{ReadsAll};
+ghost use Rattle.views.specs.Counted.{table_of, filed_of, IsCountOf, IsExactLeaf, IsLinearLeaf};
+
+use crate::troubles::Trouble;
+use filings::{Filing, Progress, count};
+use rows::{Fault, Refusal};
+use sheets::MOST_ANSWER;
+use std::alloc::{AllocError, Global};
+use std::io::Read;
+use task_tables::{TaskTable, read};
+
+/// How a table is counted: on which frame, where one is named, else on the least common multiple of the
+/// periods; and by the linear tail of which accuracy, from 1 to 64 (docs/PROGRAMS.md, Task tables).
+#[derive(Clone, Copy, PartialEq, Eq, Debug)]
+pub struct Counting {
+    pub frame: Option<u32>,
+    pub accuracy: u32,
+}
+
+/// A task table that was read and counted, in exact steps and by a linear tail.
+#[derive(Debug, Drop)]
+pub struct Counted {
+    pub(crate) table: TaskTable,
+    pub(crate) filing: Filing,
+}
+
+/// Reads a task table and counts it twice. The progress is told after each row (docs/PROGRAMS.md,
+/// Task tables, `yabreznul file`).
+///
+/// Where something is refused, the first of these is told: what cannot be taken of the text, and 9, full
+/// table; 1, bad frame, where one is named; 3, bad accuracy; 4 to 8 of the rows; and last 1, bad frame, where
+/// none is named and the periods have no common multiple up to the horizon.
+pub fn count_table<R: Read, P: Progress>(
+    alloc: Global,
+    reader: &mut R,
+    how: Counting,
+    progress: &mut P,
+) -> Result<Counted, Trouble>
+    ensures read { IfOk result (λ c. ReadsAll (R.remaining reader.old) (table_of c)) }
+    ensures counted { IfOk result (λ c. IsCountOf how.frame how.accuracy (table_of c) (filed_of c)) }
+{
+    let table = read(alloc, reader)?;
+    match count(how.frame, how.accuracy, table.numbers(), progress) {
+        Ok(filing) => Ok(Counted { table, filing }),
+        Err(fault) => Err(trouble(alloc, &table, how.frame, fault)?),
+    }
+}
+
+// What is told of a refusal of the numbers of a table, for which a frame was named or not.
+pub(crate) fn trouble(
+    alloc: Global,
+    table: &TaskTable,
+    frame: Option<u32>,
+    fault: Fault,
+) -> Result<Trouble, AllocError> {
+    Ok(match (fault.refusal, frame) {
+        (Refusal::BadFrame, Some(_)) => Trouble::Frame,
+        (Refusal::BadFrame, None) => Trouble::NoFrame,
+        (Refusal::BadAccuracy, _) => Trouble::Accuracy,
+        _ => Trouble::Row(table.explain(alloc, fault)?),
+    })
+}
+
+impl Counted {
+    /// The leaf of the count in exact steps: the encoding of the survey (docs/FORMAT.md).
+    pub fn exact_leaf(&self, alloc: Global) -> Result<Vec<u8>, Trouble>
+        ensures { IfOk result (λ bytes. IsExactLeaf (filed_of self.now) bytes.items) }
+    {
+        let mut buffer = [0; MOST_ANSWER];
+        match self.filing.file_exact(&mut buffer) {
+            Ok(length) => Ok(Vec::from_slice(alloc, &buffer[..length])?),
+            Err(fault) => Err(Trouble::Refused(fault)),
+        }
+    }
+
+    /// The leaf of the count by the linear tail: the encoding of the survey (docs/FORMAT.md).
+    pub fn linear_leaf(&self, alloc: Global) -> Result<Vec<u8>, Trouble>
+        ensures { IfOk result (λ bytes. IsLinearLeaf (filed_of self.now) bytes.items) }
+    {
+        let mut buffer = [0; MOST_ANSWER];
+        match self.filing.file_bounded(&mut buffer) {
+            Ok(length) => Ok(Vec::from_slice(alloc, &buffer[..length])?),
+            Err(fault) => Err(Trouble::Refused(fault)),
+        }
+    }
+}

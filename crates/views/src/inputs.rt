@@ -1,0 +1,18 @@
+// All that a reader holds.
+ghost use Rattle.std.specs.Prelude.{IfOk};
+ghost use Rattle.task_tables.specs.Tables.{MayHold};
+
+use crate::troubles::Trouble;
+use std::alloc::Global;
+use std::io::Read;
+
+// Reads to the end of the input.
+pub(crate) fn read_whole<R: Read>(alloc: Global, reader: &mut R) -> Result<Vec<u8>, Trouble>
+    ensures { IfOk result (λ bytes. MayHold (R.remaining reader.old) bytes.items) }
+{
+    let mut bytes = Vec::new(alloc);
+    match reader.read_to_end(&mut bytes) {
+        Ok(_) => Ok(bytes),
+        Err(error) => Err(Trouble::Input(error)),
+    }
+}

@@ -1,0 +1,87 @@
+// What rows and findings tell, as cells.
+ghost use Rattle.std.specs.Prelude.{◌≡◌, ◌++◌, ◌∷◌, [], map, decimal, IfOk, OnOk};
+ghost use Rattle.rows.specs.Judging.{plain};
+ghost use Rattle.verdicts.specs.Found.{tells, verdict_rest};
+ghost use Rattle.grids.specs.Shown.{shown_of};
+ghost use Rattle.grids.specs.declared.cells.Cell.TheVariants.{Number};
+ghost use Rattle.views.specs.Cells.{leaf_texts, number_cells, number_or_nothing, number_text, rest_text};
+
+use grids::Cell;
+use rows::Row;
+use std::alloc::{AllocError, Global};
+use verdicts::{Finding, Verdict};
+
+// A number of 32 bits.
+pub(crate) fn cell(number: u32) -> Cell
+    ensures { result ≡ Number number }
+{
+    Cell::Number(u64::from(number))
+}
+
+// A number, where there is one.
+pub(crate) fn number_cell(number: Option<u64>) -> Cell
+    ensures cell { result ≡ number_or_nothing number }
+    ensures shown { shown_of result ≡ number_text number }
+{
+    match number {
+        Some(number) => Cell::Number(number),
+        None => Cell::Nothing,
+    }
+}
+
+// The first rest that a verdict carries, if there is one.
+pub(crate) fn first_rest(verdict: Verdict) -> Option<u64>
+    ensures { result ≡ verdict_rest verdict }
+{
+    match verdict {
+        Verdict::Meets(rest) => Some(u64::from(rest)),
+        Verdict::Misses => None,
+    }
+}
+
+// The first rest that a verdict carries, or the word that the row misses.
+#[tactic(auto, using(crate::proofs::Cells::text_shown))]
+pub(crate) fn rest_cell(alloc: Global, verdict: Verdict) -> Result<Cell, AllocError>
+    ensures { IfOk result (λ cell. shown_of cell ≡ rest_text (verdict_rest verdict)) }
+{
+    match verdict {
+        Verdict::Meets(rest) => Ok(cell(rest)),
+        Verdict::Misses => Cell::of_text(alloc, "misses"),
+    }
+}
+
+// Puts the rank of a row and its four numbers behind other cells.
+pub(crate) fn push_row(cells: &mut Vec<Cell>, rank: usize, row: &Row) -> Result<(), AllocError>
+    ensures { OnOk result (cells.new.items ≡ cells.old.items ++ Number rank ∷ number_cells (plain row.now)) }
+{
+    cells.push(Cell::Number(rank as u64))?;
+    push_numbers(cells, row)
+}
+
+// Puts the four numbers of a row behind other cells.
+pub(crate) fn push_numbers(cells: &mut Vec<Cell>, row: &Row) -> Result<(), AllocError>
+    ensures { OnOk result (cells.new.items ≡ cells.old.items ++ number_cells (plain row.now)) }
+{
+    cells.push(cell(row.work))?;
+    cells.push(cell(row.deadline))?;
+    cells.push(cell(row.period))?;
+    cells.push(cell(row.jitter))?;
+    Ok(())
+}
+
+// A row of a leaf as a person reads it: rank, four numbers, first rest, response, points.
+pub(crate) fn leaf_row(
+    alloc: Global,
+    rank: usize,
+    row: &Row,
+    finding: &Finding,
+) -> Result<Vec<Cell>, AllocError>
+    ensures { IfOk result (λ cells. map shown_of cells.items ≡ leaf_texts rank (plain row.now) (tells finding.now)) }
+{
+    let mut cells = Vec::new(alloc);
+    push_row(&mut cells, rank, row)?;
+    cells.push(rest_cell(alloc, finding.verdict)?)?;
+    cells.push(number_cell(finding.response_bound(row)))?;
+    cells.push(cell(finding.points))?;
+    Ok(cells)
+}

@@ -1,0 +1,88 @@
+// Why a view was not given.
+ghost use Rattle.std.specs.Prelude.{◌≡◌};
+ghost use Rattle.views.specs.declared.troubles.Trouble.TheVariants.{Table, Memory};
+
+use crate::damage::Damage;
+use crate::differences::Difference;
+use rows::{Fault, HORIZON};
+use std::alloc::AllocError;
+use std::error::Error;
+use std::{fmt, io};
+use task_tables::{Misread, ReadError};
+
+/// Why a view was not given, or not all of it (docs/PROGRAMS.md, Task tables, has the words):
+#[derive(Debug, Drop)]
+pub enum Trouble {
+    /// The text of a table could not be read or taken.
+    Table(ReadError),
+    /// A number of the table is refused, told where it stands.
+    Row(Misread),
+    /// The frame that was named is none: 1.
+    Frame,
+    /// No frame was named, and the periods have no common multiple up to the horizon: 1.
+    NoFrame,
+    /// The accuracy is none: 3.
+    Accuracy,
+    /// There is no row of the rank to be drawn among so many: 10.
+    Rank(usize),
+    /// Another refusal of the numbers.
+    Refused(Fault),
+    /// Bytes are no leaf.
+    Damaged(Damage),
+    /// Two leaves are not of one table.
+    Different(Difference),
+    /// What was to be read could not be.
+    Input(io::Error),
+    /// What was to be written could not be.
+    Output(io::Error),
+    /// There was no memory.
+    Memory(AllocError),
+}
+
+impl fmt::Display for Trouble {
+    fn fmt<W: fmt::Write>(&self, f: &mut fmt::Formatter<W>) -> fmt::Result {
+        match self {
+            Trouble::Table(error) => write!(f, "{error}"),
+            Trouble::Row(misread) => write!(f, "{misread}"),
+            Trouble::Frame => write!(
+                f,
+                "refused 1 bad frame: expected --frame from 1 to {HORIZON}"
+            ),
+            Trouble::NoFrame => write!(
+                f,
+                "refused 1 bad frame: the periods have no common multiple up to {HORIZON}"
+            ),
+            Trouble::Accuracy => {
+                f.write_str("refused 3 bad accuracy: expected --linear from 1 to 64")
+            }
+            Trouble::Rank(0) => f.write_str("refused 10 no rank: the table has no row"),
+            Trouble::Rank(rows) => {
+                write!(f, "refused 10 no rank: expected --rank from 1 to {rows}")
+            }
+            Trouble::Refused(fault) => write!(f, "{fault}"),
+            Trouble::Damaged(damage) => write!(f, "{damage}"),
+            Trouble::Different(difference) => write!(f, "{difference}"),
+            Trouble::Input(error) => write!(f, "it could not be read: {error}"),
+            Trouble::Output(error) => write!(f, "output failed: {error}"),
+            Trouble::Memory(error) => write!(f, "{error}"),
+        }
+    }
+}
+
+impl Error for Trouble {}
+
+impl From<ReadError> for Trouble {
+    ghost from_gives = { λ e t. t ≡ Table e };
+
+    fn from(error: ReadError) -> Trouble {
+        Trouble::Table(error)
+    }
+}
+
+impl From<AllocError> for Trouble {
+    ghost from_gives = { λ e t. t ≡ Memory e };
+
+    fn from(error: AllocError) -> Trouble {
+        Trouble::Memory(error)
+    }
+}
