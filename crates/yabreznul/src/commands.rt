@@ -1,0 +1,90 @@
+// The command line, made of the forms of the subcommands.
+use crate::forms::{ABOUT, Argument, EXAMPLE, FORMS, Form, Takes};
+use clap::{Arg, ArgAction, ArgMatches, Command, Error, value_parser};
+use std::alloc::{AllocError, Global};
+
+/// What the words of a command line give, of which the first names the program. The error is what help
+/// or a misuse prints.
+pub(crate) fn matches<'a>(alloc: Global, words: &'a [String]) -> Result<ArgMatches<'a>, Error> {
+    match command(alloc) {
+        Ok(command) => command.try_get_matches_from(words),
+        Err(error) => Err(Error::from(error)),
+    }
+}
+
+// The whole command.
+fn command<'a>(alloc: Global) -> Result<Command<'a>, AllocError> {
+    let mut command = top(alloc);
+    for form in FORMS {
+        command = command.subcommand(subcommand(alloc, form)?)?;
+    }
+    Ok(command)
+}
+
+// The command without its subcommands.
+fn top<'a>(alloc: Global) -> Command<'a> {
+    described(alloc, "yabreznul", ABOUT, EXAMPLE).subcommand_required(true)
+}
+
+// A command without arguments.
+fn described<'a>(alloc: Global, name: &'a str, about: &'a str, example: &'a str) -> Command<'a> {
+    Command::new(alloc, name).about(about).after_help(example)
+}
+
+// The subcommand of a form.
+fn subcommand<'a>(alloc: Global, form: &Form) -> Result<Command<'a>, AllocError> {
+    let mut command = described(alloc, form.name, form.about, form.example);
+    for argument in form.arguments {
+        command = command.arg(arg(alloc, argument)?)?;
+    }
+    Ok(command)
+}
+
+// An argument of a subcommand.
+fn arg<'a>(alloc: Global, argument: &Argument) -> Result<Arg<'a>, AllocError> {
+    let arg = named(alloc, argument);
+    match argument.takes {
+        Takes::Word(_) => Ok(arg),
+        Takes::Words(_) => Ok(words(arg)),
+        Takes::Text(_) => Ok(arg.long(argument.name)),
+        Takes::Lettered(letter, _) => Ok(arg.long(argument.name).short(letter)),
+        Takes::Number(_) => Ok(number(arg, argument.name)),
+        Takes::Nothing => Ok(flag(arg, argument.name)),
+        Takes::NothingBeside(other) => flag(arg, argument.name).conflicts_with(other),
+    }
+}
+
+// An argument with its name and what help says of it.
+fn named<'a>(alloc: Global, argument: &Argument) -> Arg<'a> {
+    let arg = Arg::new(alloc, argument.name)
+        .help(argument.help)
+        .required(argument.required);
+    match value_name(argument.takes) {
+        Some(name) => arg.value_name(name),
+        None => arg,
+    }
+}
+
+// What help calls a value.
+fn value_name(takes: Takes) -> Option<&'static str> {
+    match takes {
+        Takes::Word(name)
+        | Takes::Words(name)
+        | Takes::Text(name)
+        | Takes::Lettered(_, name)
+        | Takes::Number(name) => Some(name),
+        Takes::Nothing | Takes::NothingBeside(_) => None,
+    }
+}
+
+fn words<'a>(arg: Arg<'a>) -> Arg<'a> {
+    arg.action(ArgAction::Append).num_args(0..)
+}
+
+fn number<'a>(arg: Arg<'a>, name: &'a str) -> Arg<'a> {
+    arg.long(name).value_parser(value_parser!(u32))
+}
+
+fn flag<'a>(arg: Arg<'a>, name: &'a str) -> Arg<'a> {
+    arg.long(name).action(ArgAction::SetTrue)
+}

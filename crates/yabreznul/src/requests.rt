@@ -1,0 +1,52 @@
+// What the arguments of a subcommand ask.
+use crate::inputs::Source;
+use clap::ArgMatches;
+use std::alloc::{AllocError, Global};
+use views::{Counting, Layout};
+
+/// The input or output that an argument names; the standard stream where it is not given.
+pub(crate) fn source<'a>(given: &ArgMatches<'a>, name: &str) -> Source<'a> {
+    match given.get_str(name) {
+        Some(word) => Source::named(word),
+        None => Source::Standard,
+    }
+}
+
+/// The leaves that are to be shown.
+pub(crate) fn leaves<'a>(
+    alloc: Global,
+    given: &ArgMatches<'a>,
+) -> Result<Vec<Source<'a>>, AllocError> {
+    match given.get_strs("leaf") {
+        Some(words) => sources(alloc, words),
+        None => Ok(vec![in alloc; Source::Standard]?),
+    }
+}
+
+// The inputs that words name.
+fn sources<'a>(alloc: Global, words: &[&'a str]) -> Result<Vec<Source<'a>>, AllocError> {
+    let mut sources = Vec::new(alloc);
+    for word in words {
+        sources.push(Source::named(word))?;
+    }
+    Ok(sources)
+}
+
+/// How a table is counted; none without an accuracy.
+pub(crate) fn counting(given: &ArgMatches<'_>) -> Option<Counting> {
+    Some(Counting {
+        frame: given.get_one("frame"),
+        accuracy: given.get_one("linear")?,
+    })
+}
+
+/// How leaves are shown.
+pub(crate) fn layout(given: &ArgMatches<'_>) -> Layout {
+    if given.get_flag("csv") {
+        Layout::Csv
+    } else if given.get_flag("json") {
+        Layout::Json
+    } else {
+        Layout::Aligned
+    }
+}
