@@ -1,7 +1,8 @@
 #!/usr/bin/env bash
 # Makes each set of vectors anew, and what the program over them is to print, and compares them with those stored:
 # stdin and stdout in the set's folder. With --write it stores them there instead. What is printed over most sets is how
-# many vectors of each kind agree; over the scripts it is the answers themselves.
+# many vectors of each kind agree; over the scripts it is the answers themselves. The files of crates/viewings, with the lines
+# that name them and what is printed, are made and compared as a whole.
 set -euo pipefail
 
 cd "$(dirname "${BASH_SOURCE[0]}")/.."
@@ -50,3 +51,18 @@ while read -r script stored; do
     done
     echo "$name: $lines lines, and what is printed over them, as stored"
 done <<<"$sets"
+
+if [ $# -eq 1 ]; then
+    python3 reference/view_cases.py
+    exit
+fi
+
+mkdir "$made/views"
+python3 reference/view_cases.py "$made/views" 2>/dev/null
+for part in data stdin stdout; do
+    if ! diff -r "$made/views/$part" "crates/viewings/$part" >&2; then
+        echo "viewings: crates/viewings/$part is not what reference/view_cases.py makes" >&2
+        exit 1
+    fi
+done
+echo "viewings: $(wc -l <"$made/views/stdin") lines, their files and what is printed, as stored"

@@ -1,0 +1,44 @@
+// The options of a command line.
+ghost use Rattle.std.specs.Prelude.{◌≡◌, Some, codes};
+
+use anyhow::{Context, bail};
+
+/// The numbers that were named.
+#[derive(Clone, Copy, Debug, Default)]
+pub(crate) struct Options {
+    pub(crate) rank: Option<u32>,
+    pub(crate) linear: Option<u32>,
+    pub(crate) frame: Option<u32>,
+}
+
+impl Options {
+    /// The options that words tell, each followed by its number.
+    pub(crate) fn parse(words: &[&str]) -> anyhow::Result<Options> {
+        let mut options = Options::default();
+        for pair in words.chunks(2) {
+            let [name, number] = pair else {
+                bail!("an option without its number");
+            };
+            options.set(name, number.parse().context("reading a number")?)?;
+        }
+        Ok(options)
+    }
+
+    // Takes the number of an option.
+    fn set(&mut self, name: &str, number: u32) -> anyhow::Result<()>
+        ensures rank { name.now ≡ codes "--rank"
+            → self.new ≡ record self.old { rank = Some number } }
+        ensures linear { name.now ≡ codes "--linear"
+            → self.new ≡ record self.old { linear = Some number } }
+        ensures frame { name.now ≡ codes "--frame"
+            → self.new ≡ record self.old { frame = Some number } }
+    {
+        match name {
+            "--rank" => self.rank = Some(number),
+            "--linear" => self.linear = Some(number),
+            "--frame" => self.frame = Some(number),
+            _ => bail!("no option: {name:?}"),
+        }
+        Ok(())
+    }
+}

@@ -1,0 +1,805 @@
+"""Makes the files that the command `yabreznul` is tried on, the command lines, and what is told of each.
+
+    python3 reference/view_cases.py [FOLDER]
+
+writes into a folder, `crates/viewings` where none is named: `data/` with the files, `stdin` with a command line in each
+line, and `stdout` with the answers, each behind a line `=== ` and the command line:
+
+| command line | answer |
+|---|---|
+| `file TABLE --linear K [--frame H]` | the table up to the line of rows that meet, and both leaves in hexadecimal |
+| `show [--csv \\| --json] LEAF ..` | what is printed, and `status 1` where a leaf was damaged |
+| `compare A B` | what is printed |
+| `plot TABLE --rank R --linear K [--frame H]` | the numbers that the picture tells |
+| `sheet TABLE [--linear K] [--frame H]` | the sheet in hexadecimal |
+| `bench SCRIPT` | what is printed |
+
+What is refused is answered by one line, `trouble: ` and what is told. The same files come each time.
+
+Where this file names the answer to a command line, it was taken from docs/PROGRAMS.md by hand, and the answers are
+held to it. The counts of each table are held to what docs/RULES.md says of them.
+"""
+
+import sys
+from pathlib import Path
+
+sys.dont_write_bytecode = True  # leave no cache beside the sources
+
+from chance import Source  # noqa: E402
+from counts import EXACT_STEPS, LINEAR_TAILS, check_case, survey, window  # noqa: E402
+from leaves import HORIZON, read_leaf, write_end, write_finding, write_heading, write_leaf, write_row  # noqa: E402
+from views import MOST_NUMBER, WORDS, Judged, Trouble, answer, leaf_of  # noqa: E402
+
+MARK = '\ufeff'  # the byte order mark
+
+# Rows with longer windows are not held to what is said of counts, where all their instants are tried.
+WIDEST = 20_000
+
+source = Source(20_250_117)
+
+files = {}  # the bytes of each file, by its name
+expected = {}  # the answer to each command line, None where none is named here
+judged_tables = []  # the frame, the rows and the accuracy of each table that is counted
+
+
+# --- Files and command lines -------------------------------------------------------------------------------
+
+
+def put(name, data):
+    """Adds a file."""
+    data = data.encode('utf-8') if isinstance(data, str) else data
+    assert name not in files and not set(name) & set(' /\n\r\t') and not name.startswith('-')
+    files[name] = data
+    return name
+
+
+def ask(line, told=None):
+    """Adds a command line, maybe with what is told of it."""
+    assert line not in expected and '  ' not in line and line == line.strip()
+    expected[line] = told
+    words = line.split(' ')
+    if words[0] == 'file':
+        options = dict(zip(words[2::2], words[3::2]))
+        frame = int(options['--frame']) if '--frame' in options else None
+        try:
+            judged = Judged(files[words[1]], int(options['--linear']), frame)
+        except Trouble:
+            return
+        judged_tables.append((judged.frame, tuple(judged.rows), int(options['--linear'])))
+
+
+def trouble(text):
+    """The answer where something is refused."""
+    return f'trouble: {text}\n'
+
+
+def table(name, text, *options):
+    """Adds a table, and its command line `file` with each of some options."""
+    put(name, text)
+    for option in options or ['--linear 3']:
+        ask(f'file {name} {option}')
+
+
+def bad(name, text, told, options='--linear 3'):
+    """Adds a table that is not taken, and what is told of it."""
+    put(name, text)
+    ask(f'file {name} {options}', trouble(told))
+
+
+def lines(*texts):
+    """Lines, each with a line feed."""
+    return ''.join(text + '\n' for text in texts)
+
+
+def rows_text(rows, parter=',', names=None, heading='name work deadline period jitter'):
+    """A table of rows under all headings, its names A1, A2, .. where no others are told."""
+    names = names or [f'A{rank}' for rank in range(1, len(rows) + 1)]
+    told = [heading.split(' ')] + [[name, *map(str, row)] for name, row in zip(names, rows)]
+    return lines(*(parter.join(line) for line in told))
+
+
+# --- Tables that are counted -------------------------------------------------------------------------------
+
+WORKED_ROWS = [(1, 4, 4, 0), (2, 6, 6, 1), (3, 12, 12, 0)]
+WORKED = lines('# three tasks', 'name,work,deadline,period,jitter', 'A,1,4,4,0', 'B,2,6,6,1', 'E,3,12,12,0')
+
+WORKED_TOLD = """\
+frame 12, linear tail of accuracy 3
+rank  name  C   D   T  J  exact rest  response  slack  linear rest  gap  exact points  linear points
+   1  A     1   4   4  0           1         1      3            1    0             1              1
+   2  B     2   6   6  1           3         4      2            3    0             1              1
+   3  E     3  12  12  0          10        10      2           11    1             4              4
+utilisation 10/12, 83.33 %
+3 of 3 rows meet in exact steps, 3 of 3 by the linear tail
+exact leaf: 460000000C0000\
+5200000001000000040000000400000000520000000200000006000000060000000152000000030000000C0000000C00000000\
+410000000100000001410000000300000001410000000A000000045A00000007
+linear leaf: 460000000C0103\
+5200000001000000040000000400000000520000000200000006000000060000000152000000030000000C0000000C00000000\
+410000000100000001410000000300000001410000000B000000045A00000007
+"""
+
+# 32 rows, as many as there may be.
+PERIODS = [120, 144, 180, 240, 360, 720]
+FULL_ROWS = [(3 + at % 5, PERIODS[at // 6] - 4 * (at % 6), PERIODS[at // 6], at % 7) for at in range(32)]
+
+
+def forms():
+    """Tables in all forms that a table may have."""
+    put('worked.csv', WORKED)
+    ask('file worked.csv --linear 3', WORKED_TOLD)
+    for accuracy in (1, 64):
+        ask(f'file worked.csv --linear {accuracy}')
+    ask('file worked.csv --linear 2 --frame 16777212')
+    table('worked.tsv', rows_text(WORKED_ROWS, '\t', ['first task', 'second', 'E']))
+    table('worked.txt', lines(
+        'name  work  deadline  period',
+        'A        1         4       4',
+        '  B      2         6       6  ',
+        'E 3 12 12',
+    ), '--linear 1')
+    table('order.csv', lines('period,jitter,name,deadline,work', '4,0,A,4,1', '6,1,B,6,2', '12,0,E,12,3'))
+    table('bare.csv', lines('deadline,work,period', '4,1,4', '6,2,6'))
+    table('jitter.txt', lines('jitter work period deadline', '1 1 4 4', '0 2 12 8'), '--linear 1')
+    table('line-ends.csv', WORKED.replace('\n', '\r\n').replace('B,', '\r\n \t\r\n# B\r\nB,'))
+    table('no-end-return.csv', WORKED[:-1] + '\r')
+    table('returns.csv', WORKED.replace('\n', '\r').replace('tasks\r', 'tasks\n').replace('B,', '\r \t\r# B\rb\n\rB,').replace('E', '\n\r\nE'))
+    table('returns.txt', '# a, b\nname work deadline period\rA,A 1 4 4\r  \n\r# b\n"B\r\t\rb" 2 6 6\rE 3 "12"\t 12')
+    table('mark-comment.csv', MARK + WORKED)
+    table('mark-heading.txt', MARK + lines('name work deadline period jitter', 'A 1 4 4 0'))
+    table('comments.csv', lines(
+        '#', '# a, b\tc "d', '', '   ', '\t', 'name,work,deadline,period', '#A,0,0,0', 'A,1,4,4', '', '##', '#B,x', 'B,2,6,6',
+        '# the end',
+    ))
+    table('passed.csv', lines(
+        ',,,,', ' ,\t', 'name,work,deadline,period', ',,,', 'A,1,4,4', '"",,,', ',', ',,,,,,', 'B,2,6,6', ' , ,\t, ', '""',
+    ))
+    table('passed.tsv', lines(
+        '  ', '\t\t', 'name\twork\tdeadline\tperiod', '\t\t\t', 'A\t1\t4\t4', '""\t', '\t', ' \t \t ', 'B\t2\t6\t6',
+    ))
+    table('padding.csv', lines(
+        ' name\t,\twork ,  deadline  ,period', '  A , 1 ,\t4\t,4  ', '"B, C" \t," 2"\t,"\t6 " , 6', ' D E\t,3,12,12 \t',
+        ' # no comment,1,12,12', ' "F",1,12,12', '\t"G"" "" ,1,12,12',
+    ))
+    table('zeros.csv', lines('name,work,deadline,period,jitter', 'A,0001,04,00000000000000000004,00', f'B,2,6,6,{6000 * "0"}1'))
+    table('heading.csv', lines('name,work,deadline,period,jitter'), '--linear 3', '--linear 64 --frame 12')
+    table('heading-no-end.txt', '# no task\nwork period deadline')
+    table('one.csv', lines('name,work,deadline,period,jitter', 'alone,5,9,10,4'), '--linear 1')
+    table('commas.tsv', lines('name\twork\tdeadline\tperiod', 'A,B\t1\t4\t4', '"A\tB"\t2\t6\t6'))
+
+
+def names():
+    """Tables whose names are of all kinds."""
+    table('quotes.csv', lines(
+        '"name","work",deadline,period', '"A, the first",1,"4",4', '"the ""second""",2,6,"6"', '"",3,12,12', 'in"side,1,12,12',
+        '"E" and "F" ""f""" ,"1"2,120,"1"20', '"G, ""g"""g""g,1,12,12', '""H"",1,12,12',
+    ))
+    table('quotes.tsv', lines('name\twork\t"deadline"\tperiod', '"A, ""a"""\t1\t4\t4', '"B\tb"\t"2"\t6\t6'))
+    table('quotes.txt', lines(
+        'name work deadline period', '"the first task"  1 4 4', '  "" B "  " 2 6 "6"  "\t"', '"a ""b"" c" 3 "12"   12 ',
+        '  "d d"d"d 1 "1"2 12', '"" "  "', 'e"e"  "1 " " 12" "12"\t ',
+    ))
+    table('quoted-ends.csv', lines(
+        'name,work,deadline,period', '"first', 'line",1,4,4', '"# second\r', '', '# third",2,6,6', '# a comment', 'E,3,12,12',
+    ))
+    table('quoted-blanks.csv', lines(
+        'name,work,deadline,period', '" A\t",1,4,4', ' "  B" ,2,6,6', '"   ",3,12,12', '"\t"" "," 1","12\t",12',
+    ))
+    table('characters.csv', lines(
+        'name,work,deadline,period', 'Rückführung,1,4,4', '制御,2,6,6', 'Δt→∞ 😀,3,12,12', 'e\u0301\u200b,1,12,12',
+    ))
+    table('control.csv', lines(
+        'name,work,deadline,period', 'a\u0001b,1,4,4', '\u001b[1mbold\u001b[0m,2,6,6', 'tab\tin\u007f\u0085\u009f,3,12,12',
+        '"\u0000",1,24,24', '\u00a0\u00ad,1,24,24',
+    ))
+    table('return.csv', lines('name,work,deadline,period', '"a\rb",1,4,4', '"c\rd\r\ne",2,6,6', '"f\r""\r\r"\t,3,12,12\r'))
+    table('long-names.csv', lines('name,work,deadline,period', f'{300 * "x"},1,4,4', f'"{40 * "ä, "}",2,6,6', 'E,3,12,12'))
+    table('empty-names.csv', lines('work,name,deadline,period', '1,,4,4', '2,B,6,6', '3, ,12,12'))
+    table('no-names.tsv', lines('name\twork\tdeadline\tperiod', '\t1\t4\t4', ' \t2\t6\t6'))
+    table('number-names.csv', lines('name,work,deadline,period', '7,1,4,4', '1000,2,6,6', 'seven,3,12,12'))
+    table('near-numbers.csv', lines(
+        'name,work,deadline,period', 'A1,1,4,4', '3.5,2,6,6', '-,3,12,12', '+1000,1,12,12', 'misses,1,24,24', '-2,1,24,24',
+    ))
+    table('bytes-comment.csv', b'# \xff\xfe\nwork,deadline,period\n#\xc3\n1,4,4\n')
+
+
+def counted():
+    """Tables whose rows meet and miss by each count, with long windows and many rows."""
+    table('full.csv', rows_text(FULL_ROWS), '--linear 64', '--linear 5 --frame 1440')
+    table('full-passed.csv', rows_text(FULL_ROWS) + ',,,,\n\n# no more\n"" , , ,"  " ,\t\n" ",\n', '--linear 2')
+    table('tail-misses.csv', rows_text(
+        [(2, 5, 5, 0), (2, 7, 7, 0), (3, 35, 35, 14), (1, 35, 35, 0)]
+    ), '--linear 1', '--linear 7')
+    table('both-miss.csv', rows_text(
+        [(2, 4, 4, 0), (3, 6, 6, 0), (1, 3, 12, 0), (5, 12, 12, 2), (1, 12, 12, 0)]
+    ), '--linear 4')
+    table('jitters.csv', rows_text(
+        [(1, 6, 6, 5), (1, 8, 8, 6), (2, 12, 12, 3), (3, 24, 24, 10), (1, 24, 24, 0)]
+    ), '--linear 2')
+    table('long-windows.csv', rows_text([
+        (3, 10, 10, 2), (200, 1000, 1000, 60), (4000, 50_000, 50_000, 700), (60_000, 300_000, 1_000_000, 100_000),
+    ]), '--linear 1')
+    table('long-misses.tsv', rows_text(
+        [(70, 100, 100, 0), (900, 3000, 3000, 10), (3, 60_000, 60_000, 0)], '\t'
+    ), '--linear 8')
+    table('primes.csv', lines('work,deadline,period', '1000,4093,4093', '1500,4000,4099'), '--linear 2')
+    table('common.csv', lines('work,deadline,period', '7,4095,4095', '9,4096,4096', '11,80,4095'), '--linear 1')
+    table('horizon.csv', rows_text([
+        (1, 2, 2, 0), (5, 16_777_216, 16_777_216, 0), (3, 16_777_216, 16_777_216, 16_777_000), (1, 1024, 65_536, 3),
+    ]), '--linear 4')
+    table('hundredths.csv', lines('work,deadline,period', '1,20000,20000'), '--linear 1', '--linear 1 --frame 60000')
+    table('hundredths-below.csv', lines('work,deadline,period', '1,20001,20001', '2,20001,20001', '3333,10000,20001'))
+    table('hundredths-above.csv', lines('work,deadline,period', '1,1,1', '1,20000,20000', '19999,19999,20000'))
+    table('whole.csv', lines('work,deadline,period,jitter', '1,2,2,0', '1,2,2,0', '1,2,2,1'))
+
+
+def random_tables():
+    """Tables made by chance: 2 to 12 rows, in all forms."""
+    for number, count in enumerate([7, *range(2, 13)], 1):
+        accuracy = source.between(1, 9)
+        _, periods = source.frame_and_periods(count, 5000)
+        rows = source.table(count, periods, source.utilisation(accuracy))
+        parter = [',', '\t', '  '][number % 3]
+        name = f'chance-{number:02}.' + ['csv', 'tsv', 'txt'][number % 3]
+        table(name, rows_text(rows, parter), f'--linear {accuracy}')
+
+
+# --- Tables whose text is not taken ------------------------------------------------------------------------
+
+HEADING = 'name,work,deadline,period,jitter'
+A_NUMBER = 'expected a number from 0 to 4294967295'
+A_HEADING = 'expected name, work, deadline, period or jitter'
+NO_TEXT = 'bytes that are no text stand there, expected UTF-8'
+
+
+def nothing(line):
+    """What is told where there is no heading."""
+    return f'line {line}: nothing stands there, expected a heading with work, deadline and period'
+
+
+def bad_headings():
+    """No heading, or one that is not taken."""
+    bad('empty.csv', '', nothing(1))
+    bad('only-comments.csv', '# a\n# b\n', nothing(3))
+    bad('only-comments-no-end.csv', '# a\n# b', nothing(3))
+    bad('only-blank.txt', '\n  \n\t\r\n', nothing(4))
+    bad('only-commas.csv', '# a\n,,\n"", \n', nothing(4))
+    bad('h-unknown.csv', '# foo\nname,foo,deadline,period\n', f'line 2, field 2: "foo" stands there, {A_HEADING}')
+    bad('h-control.csv', 'work,"a\u0001\nb",period\n', f'line 1, field 2: "a??b" stands there, {A_HEADING}')
+    bad('h-empty.csv', 'work,deadline,,period\n1,4,,4\n', f'line 1, field 3: "" stands there, {A_HEADING}')
+    bad('h-again.csv', '# a\nwork,work,foo\n', 'line 2, field 2: "work" stands there again, expected each heading once')
+    bad('h-no-period.csv', '# a\nname,work,deadline,jitter\nA,x\n',
+        'line 2: no heading period stands there, expected work, deadline and period')
+    bad('h-no-deadline.txt', 'jitter work\n', 'line 1: no heading deadline stands there, expected work, deadline and period')
+    bad('h-none.csv', 'jitter,name\n1,\n', 'line 1: no heading work stands there, expected work, deadline and period')
+    bad('h-order.csv', 'name,period,x,y\n', f'line 1, field 3: "x" stands there, {A_HEADING}')
+    bad('h-bytes.csv', b'#\nname,w\xf6rk,name,foo\n', f'line 2, field 2: {NO_TEXT}')
+    bad('h-bytes-later.csv', b'Work,\xff,name,name\n', f'line 1, field 1: "Work" stands there, {A_HEADING}')
+    bad('h-again-later.tsv', b'name\tperiod\tname\t\xff\n', 'line 1, field 3: "name" stands there again, expected each heading once')
+    bad('h-long.csv', f'work,"  {41 * "h"}",period\n', f'line 1, field 2: "{40 * "h"}.." stands there, {A_HEADING}')
+    bad('h-quote.csv', 'name, "work",deadline,period\n', f'line 1, field 2: ""work"" stands there, {A_HEADING}')
+    bad('h-return.txt', '# a\rb\nwork\rdeadline period\n', 'line 3: no heading deadline stands there, expected work, deadline and period')
+
+
+def bad_fields():
+    """Too few fields, too many, and the order in which troubles are told."""
+    bad('f-few.csv', f'{HEADING}\nA,1,4,4,0\n\nB,2,6\n', 'line 4: 3 fields stand there, expected 5')
+    bad('f-many.tsv', 'work\tdeadline\tperiod\n1\t4\t4\t\n', 'line 2: 4 fields stand there, expected 3')
+    bad('f-first.csv', f'{HEADING}\nA,x,-,4\n', 'line 2: 4 fields stand there, expected 5')
+    bad('f-tabs.txt', 'name work deadline period\nA\t1\t4\t4\n', 'line 2: 1 fields stand there, expected 4')
+    bad('f-lines.csv', f'{HEADING}\nA,1,4,4,y\nB,2\n', f'line 2, field 5 (jitter): "y" stands there, {A_NUMBER}')
+    bad('f-return.csv', f'{HEADING}\r# a\rA,1,4,4,0\n\rB,2,6,6\r\n', 'line 5: 4 fields stand there, expected 5')
+    bad('f-return-in.csv', f'{HEADING}\r\nA\r,1,4,4,0\n', 'line 2: 1 fields stand there, expected 5')
+    bad('f-return-left.csv', f'{HEADING}\rA,1,4,4,0\r"\r\n",1,x,y,z\r', f'line 3, field 3 (deadline): "x" stands there, {A_NUMBER}')
+    bad('f-blank-quote.csv', f'{HEADING}\n "A, B",1,4,4,0\n', 'line 2: 6 fields stand there, expected 5')
+    bad('f-tab-quote.txt', 'name work deadline period\n\t"A b" 1 4 4\n', 'line 2: 5 fields stand there, expected 4')
+    bad('f-no-name.txt', 'name work deadline period\n"" 1 4 "4"\n', 'line 2: 3 fields stand there, expected 4')
+    bad('f-text-first.csv', f'{HEADING}\nA,0,4,4,0\nB,1,4,4,?\n', f'line 3, field 5 (jitter): "?" stands there, {A_NUMBER}',
+        '--linear 0 --frame 0')
+    bad('f-open-quote.csv', f'{HEADING}\nA,1,4,4,0\n"B,2,6,6,0\nE,3,12,12,0\n', 'line 3: 1 fields stand there, expected 5')
+    bad('f-quoted-ends.csv', f'{HEADING}\n"A\nB\r\n\n",1,4,4,0\n# a\n"C\n",1,4,4\n', 'line 7: 4 fields stand there, expected 5')
+    bad('f-quoted-number.csv', f'# a\n{HEADING}\n"A\n# b\n",x,4,4,0\n', f'line 3, field 2 (work): "x" stands there, {A_NUMBER}')
+    bad('f-33.csv', '# a\n\n' + rows_text(FULL_ROWS + [(1, 720, 720, 0)]),
+        'line 36: a task more stands there, expected at most 32: refused 9 full table')
+    bad('f-33-few.csv', rows_text(FULL_ROWS) + ',,,,\n"  "\nx,1\n',
+        'line 36: a task more stands there, expected at most 32: refused 9 full table')
+    bad('f-33-many.txt', rows_text(FULL_ROWS, ' ') + '""  "\t"\nx 1 4 4 0 0\n',
+        'line 35: a task more stands there, expected at most 32: refused 9 full table')
+    bad('f-33-word.csv', rows_text(FULL_ROWS).encode('ascii') + b'\xe4,y,1,1,1\n',
+        'line 34: a task more stands there, expected at most 32: refused 9 full table', '--linear 0')
+
+
+def bad_numbers():
+    """What is no number, in all columns."""
+    texts = {
+        '-3': '-3', '+3': '+3', '3 4': '3 4', '': '', '٣': '٣', '3\u00a0': '3\u00a0',
+        '3\u0000': '3?', '" 3\n"': '3?', '3""': '3""', ' "3"': '"3"', '"3" "4"': '3 "4"', '"   "': '', '" 3\t"\tx ': '3??x',
+        f'"  {40 * "ä"} "': 40 * 'ä', f'{39 * "ä"}\u001f9': f'{39 * "ä"}?..', f' {41 * "-"} ': f'{40 * "-"}..',
+        '\u009f\u007f': '\u009f?', 1000 * 'long ': 8 * 'long ' + '..',
+    }
+    for number, (text, told) in enumerate(texts.items(), 1):
+        at = number % 4
+        fields = ['1', '4', '4', '0']
+        fields[at] = text
+        heading = ['work', 'deadline', 'period', 'jitter'][at]
+        bad(f'n-{number:02}.csv', f'{HEADING}\n# number\nA,{",".join(fields)}\n',
+            f'line 3, field {at + 2} ({heading}): "{told}" stands there, {A_NUMBER}')
+
+
+def large_numbers():
+    """Whole numbers that are too large, with a refusal and without."""
+    large, larger, digits, cut = '4294967296', '99999999999', 6000 * '9', 40 * '9' + '..'
+    seven, six, five = ': refused 7 long period', ': refused 6 late deadline', ': refused 5 no window'
+    order = 'jitter,period,deadline,work'
+    cases = [
+        (HEADING, f'A,1,4,{large},x', 4, 'period', large, seven),
+        (HEADING, f'A,1,4,000{large},{large}', 4, 'period', f'000{large}', seven),
+        (HEADING, f'A,1,{large},{MOST_NUMBER},0', 3, 'deadline', large, six),
+        (HEADING, f'A,1,{digits},0,0', 3, 'deadline', cut, six),
+        (HEADING, f'A,1,{large},{large},0', 3, 'deadline', large, ''),
+        (HEADING, f'A,1,{large},x,0', 3, 'deadline', large, ''),
+        (HEADING, f'A,{large},4,4,0', 2, 'work', large, five),
+        (HEADING, f'A,{larger},{MOST_NUMBER},x,0', 2, 'work', larger, five),
+        (HEADING, f'A,{large},{large},4,0', 2, 'work', large, ''),
+        (HEADING, f'A,1,4,4,{large}', 5, 'jitter', large, five),
+        (order, f'{large},4,{large},1', 1, 'jitter', large, ''),
+    ]
+    for number, (heading, line, field, column, text, refusal) in enumerate(cases, 1):
+        bad(f'l-{number:02}.csv', f'{heading}\n{line}\n',
+            f'line 2, field {field} ({column}): "{text}" stands there, {A_NUMBER}{refusal}')
+
+
+def bad_bytes():
+    """Bytes that are no text."""
+    bad('b-name.csv', b'# \xe4\n\nname,work,deadline,period\n\xe4,1,4,4\n', f'line 4, field 1 (name): {NO_TEXT}')
+    bad('b-quoted.csv', b'work,deadline,period,name\n1,4,4,"a,\n\xc3"\n', f'line 2, field 4 (name): {NO_TEXT}')
+    bad('b-later.csv', b'name,work,deadline,period\nA,x,4,\xc0\x80\n', f'line 2, field 2 (work): "x" stands there, {A_NUMBER}')
+    bad('b-few.csv', b'name,work,deadline,period\nA,\xf5,4\n', 'line 2: 3 fields stand there, expected 4')
+
+
+# --- Tables that are refused -------------------------------------------------------------------------------
+
+
+def refused_tables():
+    """The refusals 4 to 8 of a table that was read, and their order."""
+    good = [(1, 4, 4, 0), (1, 6, 6, 0), (1, 12, 12, 0), (1, 12, 12, 3)]
+
+    def with_row(rank, *row):
+        return rows_text(good[:rank - 1] + [row] + good[rank:])
+
+    bad('r-idle-3.csv', '\n' + with_row(3, 0, 0, 0, 9),
+        'line 5, field 2 (work): 0 stands there, expected at least 1: refused 4 idle row at rank 3')
+    bad('r-window.csv', with_row(1, 5, 6, 6, 2),
+        'line 2, field 2 (work): 5 stands there, expected at most 4, the deadline 6 less the jitter 2: refused 5 no window at rank 1')
+    bad('r-window-below.csv', with_row(1, 5, 6, 6, 9),
+        'line 2, field 2 (work): 5 stands there, expected a work of at least 1 that fits: the deadline 6 is below the jitter 9: '
+        'refused 5 no window at rank 1')
+    bad('r-window-none.csv', with_row(4, 1, 6, 6, 6),
+        'line 5, field 2 (work): 1 stands there, expected at most 0, the deadline 6 less the jitter 6: refused 5 no window at rank 4')
+    bad('r-window-plain.txt', 'period work deadline\n12 00013 0012\n',
+        'line 2, field 2 (work): 13 stands there, expected at most 12, the deadline 12 less the jitter 0: refused 5 no window at rank 1')
+    bad('r-window-sum.csv', with_row(2, MOST_NUMBER, MOST_NUMBER, MOST_NUMBER, MOST_NUMBER),
+        f'line 3, field 2 (work): {MOST_NUMBER} stands there, expected at most 0, the deadline {MOST_NUMBER} less the jitter '
+        f'{MOST_NUMBER}: refused 5 no window at rank 2')
+    bad('r-late.csv', with_row(1, 2, 7, 6, 0),
+        'line 2, field 3 (deadline): 7 stands there, expected at most the period 6: refused 6 late deadline at rank 1')
+    bad('r-late-3.tsv', 'deadline\tperiod\twork\n4\t4\t1\n\n6\t6\t1\n4294967295\t0\t1\n',
+        'line 5, field 1 (deadline): 4294967295 stands there, expected at most the period 0: refused 6 late deadline at rank 3')
+    bad('r-long.csv', with_row(1, 1, 4, 16_777_217, 0),
+        'line 2, field 4 (period): 16777217 stands there, expected at most 16777216: refused 7 long period at rank 1')
+    bad('r-off-4.csv', lines('period,deadline,work', '', '4,4,1', '6,6,1', '12,12,1', '24,12,1', '5,5,1'),
+        'line 6, field 1 (period): 24 stands there, expected a divisor of the frame: refused 8 off frame at rank 4', '--linear 3 --frame 12')
+    bad('r-return.csv', 'work,deadline,period\r1,4,4\r\n2,6,6\r0,1,1\n',
+        'line 4, field 1 (work): 0 stands there, expected at least 1: refused 4 idle row at rank 3')
+    bad('r-multiple.csv', lines('work,deadline,period', '1,10,4099', '1,10,4111'),
+        'refused 1 bad frame: the periods have no common multiple up to 16777216')
+
+    # One with all flaws, and then always without the one that was told.
+    flaws = [
+        (1, 4, 7, 0), (1, 4, 11, 0), (1, 4, 16_777_217, 0), (1, 4, 16_777_218, 0), (2, 9, 8, 0), (2, 10, 8, 0), (3, 4, 4, 2),
+        (3, 4, 4, 3), (0, 0, 0, 1), (0, 4, 4, 0),
+    ]
+    told = [
+        'line 10, field 2 (work): 0 stands there, expected at least 1: refused 4 idle row at rank 9',
+        'line 8, field 2 (work): 3 stands there, expected at most 2, the deadline 4 less the jitter 2: refused 5 no window at rank 7',
+        'line 6, field 3 (deadline): 9 stands there, expected at most the period 8: refused 6 late deadline at rank 5',
+        'line 4, field 4 (period): 16777217 stands there, expected at most 16777216: refused 7 long period at rank 3',
+        'line 2, field 4 (period): 7 stands there, expected a divisor of the frame: refused 8 off frame at rank 1',
+    ]
+    for number, text in enumerate(told):
+        bad(f'r-order-{number}.csv', rows_text(flaws[:10 - 2 * number]), text, '--linear 3 --frame 16')
+
+    # A refusal of a table comes before that its periods have no common multiple.
+    bad('r-order-multiple.csv', lines('work,deadline,period', '1,10,4099', '1,10,4111', '0,10,10'),
+        'line 4, field 1 (work): 0 stands there, expected at least 1: refused 4 idle row at rank 3')
+
+
+BAD_FRAME = trouble('refused 1 bad frame: expected --frame from 1 to 16777216')
+BAD_ACCURACY = trouble('refused 3 bad accuracy: expected --linear from 1 to 64')
+NO_RANK = trouble('refused 10 no rank: expected --rank from 1 to 3')
+NO_ROW = trouble('refused 10 no rank: the table has no row')
+NO_MULTIPLE = trouble('refused 1 bad frame: the periods have no common multiple up to 16777216')
+
+
+def refused_options():
+    """Frames and accuracies that are refused, and the order."""
+    for frame in (0, 16_777_217):
+        ask(f'file worked.csv --linear 3 --frame {frame}', BAD_FRAME)
+    for accuracy in (0, 65):
+        ask(f'file worked.csv --linear {accuracy}', BAD_ACCURACY)
+    ask('file worked.csv --linear 0 --frame 0', BAD_FRAME)
+    ask('file worked.csv --linear 0 --frame 10', BAD_ACCURACY)
+    ask('file worked.csv --linear 3 --frame 16', trouble(
+        'line 4, field 4 (period): 6 stands there, expected a divisor of the frame: refused 8 off frame at rank 2'))
+    ask('file r-idle-3.csv --linear 3 --frame 16777217', BAD_FRAME)
+    ask('file r-multiple.csv --linear 0', BAD_ACCURACY)
+    ask('file r-multiple.csv --linear 3 --frame 4099', trouble(
+        'line 3, field 3 (period): 4111 stands there, expected a divisor of the frame: refused 8 off frame at rank 2'))
+    ask('file empty.csv --linear 0 --frame 0', trouble(nothing(1)))
+
+
+def plots():
+    """The numbers of pictures."""
+    ask('plot worked.csv --rank 3 --linear 3', 'rank 3; window 12; exact rest 10 points 4; linear-3 rest 11 points 4\n')
+    ask('plot worked.csv --rank 3 --linear 1', 'rank 3; window 12; exact rest 10 points 4; linear-1 misses points 1\n')
+    ask('plot worked.csv --rank 2 --linear 1 --frame 24', 'rank 2; window 5; exact rest 3 points 1; linear-1 rest 4 points 1\n')
+    for line in [
+        'both-miss.csv --rank 3 --linear 4', 'tail-misses.csv --rank 3 --linear 2', 'full.csv --rank 32 --linear 5',
+        'long-windows.csv --rank 4 --linear 9',
+        'horizon.csv --rank 4 --linear 2', 'chance-12.csv --rank 12 --linear 3',
+    ]:
+        ask(f'plot {line}')
+    for rank in (0, 4):
+        ask(f'plot worked.csv --rank {rank} --linear 3', NO_RANK)
+    ask('plot heading.csv --rank 1 --linear 3', NO_ROW)
+    ask('plot worked.csv --rank 0 --linear 0 --frame 0', BAD_FRAME)
+    ask('plot worked.csv --rank 4 --linear 65', BAD_ACCURACY)
+    ask('plot worked.csv --rank 4 --linear 3 --frame 18', trouble(
+        'line 3, field 4 (period): 4 stands there, expected a divisor of the frame: refused 8 off frame at rank 1'))
+    ask('plot r-multiple.csv --rank 3 --linear 3', NO_MULTIPLE)
+    ask('plot f-few.csv --rank 1 --linear 3', trouble('line 4: 3 fields stand there, expected 5'))
+
+
+def sheets():
+    """Sheets by both bounds."""
+    head, rows = '460000000C', ''.join(write_row(*row).hex().upper() for row in WORKED_ROWS)
+    ask('sheet worked.csv --linear 3', f'sheet: {head}0103{rows}\n')
+    ask('sheet worked.csv', f'sheet: {head}0000{rows}\n')
+    ask('sheet worked.txt --linear 64')
+    ask('sheet heading.csv', 'sheet: 46000000010000\n')
+    ask('sheet heading.csv --linear 1 --frame 16777216', 'sheet: 46010000000101\n')
+    ask('sheet full.csv --linear 64 --frame 1440')
+    ask('sheet worked.csv --linear 0', BAD_ACCURACY)
+    ask('sheet worked.csv --linear 65 --frame 0', BAD_FRAME)
+    ask('sheet worked.csv --frame 10 --linear 3', trouble(
+        'line 3, field 4 (period): 4 stands there, expected a divisor of the frame: refused 8 off frame at rank 1'))
+    ask('sheet r-idle-3.csv', trouble('line 5, field 2 (work): 0 stands there, expected at least 1: refused 4 idle row at rank 3'))
+    ask('sheet empty.csv', trouble(nothing(1)))
+
+
+# --- Leaves ------------------------------------------------------------------------------------------------
+
+
+def leaf(name, rows, accuracy, frame):
+    """Adds the leaf of a survey, in exact steps where the accuracy is 0."""
+    bound = LINEAR_TAILS[accuracy] if accuracy else EXACT_STEPS
+    return put(name, leaf_of(frame, accuracy, rows, survey(frame, bound, rows)))
+
+
+def by_hand(name, rows, findings, accuracy=0, frame=12):
+    """Adds a leaf with findings told by hand, which need not be those of its rows."""
+    return put(name, write_leaf(frame, 1 if accuracy else 0, accuracy, rows, findings))
+
+
+def rows_of(name):
+    """The rows of a table that was added, and its frame."""
+    judged = Judged(files[name])
+    return judged.rows, judged.frame
+
+
+LINEAR_3_TOLD = """\
+worked.linear-3.leaf: linear tail of accuracy 3, frame 12, 3 rows
+rank  work  deadline  period  jitter  first rest  response  points
+   1     1         4       4       0           1         1       1
+   2     2         6       6       1           3         4       1
+   3     3        12      12       0          11        11       4
+"""
+
+EXACT_TOLD = """\
+worked.exact.leaf: exact steps, frame 12, 3 rows
+rank  work  deadline  period  jitter  first rest  response  points
+   1     1         4       4       0           1         1       1
+   2     2         6       6       1           3         4       1
+   3     3        12      12       0          10        10       4
+"""
+
+EARLIER_TOLD = """\
+A: later.leaf, linear tail of accuracy 3
+B: earlier.leaf, exact steps
+frame 12, 3 rows
+rank  work  deadline  period  jitter    A rest  B rest  B later by    A points  B points  verdicts
+   1     1         4       4       0         5       1  -4                   2         1  same
+   2     2         6       6       1  16777216       2  -16777214   4294967295         1  same
+   3     3        12      12       0        12       1  -11                  5         9  same
+the verdicts part nowhere
+"""
+
+NOT_LATER_TOLD = """\
+A: worked.exact.leaf, exact steps
+B: earlier.leaf, exact steps
+frame 12, 3 rows
+rank  work  deadline  period  jitter  A rest  B rest  B later by  A points  B points  verdicts
+   1     1         4       4       0       1       1           0         1         1  same
+   2     2         6       6       1       3       2          -1         1         1  same
+   3     3        12      12       0      10       1          -9         4         9  same
+the verdicts part nowhere
+"""
+
+PART_EARLIER_TOLD = """\
+A: later.leaf, linear tail of accuracy 3
+B: misses-1.leaf, linear tail of accuracy 64
+frame 12, 3 rows
+rank  work  deadline  period  jitter    A rest  B rest  B later by    A points  B points  verdicts
+   1     1         4       4       0         5  misses  -                    2         1  part
+   2     2         6       6       1  16777216       3  -16777213   4294967295         1  same
+   3     3        12      12       0        12  misses  -                    5         4  part
+the verdicts part at ranks 1, 3
+"""
+
+COMPARE_TOLD = """\
+A: worked.exact.leaf, exact steps
+B: worked.linear-1.leaf, linear tail of accuracy 1
+frame 12, 3 rows
+rank  work  deadline  period  jitter  A rest  B rest  B later by  A points  B points  verdicts
+   1     1         4       4       0       1       1           0         1         1  same
+   2     2         6       6       1       3       4           1         1         1  same
+   3     3        12      12       0      10  misses           -         4         1  part
+the verdicts part at rank 3
+"""
+
+
+def good_leaves():
+    """Leaves that are read."""
+    leaf('worked.exact.leaf', WORKED_ROWS, 0, 12)
+    for accuracy in (1, 2, 3, 64):
+        leaf(f'worked.linear-{accuracy}.leaf', WORKED_ROWS, accuracy, 12)
+    leaf('none.exact.leaf', [], 0, 1)
+    leaf('none.linear-7.leaf', [], 7, HORIZON)
+    leaf('one.leaf', [(5, 9, 10, 4)], 1, 10)
+    leaf('full.exact.leaf', FULL_ROWS, 0, 720)
+    leaf('full.linear-64.leaf', FULL_ROWS, 64, 720)
+    leaf('full.linear-1.leaf', FULL_ROWS, 1, 720)
+    for name in ('both-miss', 'tail-misses', 'jitters', 'horizon'):
+        rows, frame = rows_of(f'{name}.csv')
+        leaf(f'{name}.exact.leaf', rows, 0, frame)
+        leaf(f'{name}.linear-2.leaf', rows, 2, frame)
+    rows, frame = rows_of('chance-09.csv')
+    leaf('chance-09.exact.leaf', rows, 0, frame)
+    leaf('chance-09.linear-1.leaf', rows, 1, frame)
+    leaf('frame-24.leaf', WORKED_ROWS, 0, 24)
+    leaf('two-rows.leaf', WORKED_ROWS[:2], 0, 12)
+    leaf('other-jitter.leaf', [WORKED_ROWS[0], (2, 6, 6, 0), WORKED_ROWS[2]], 0, 12)
+    leaf('other-rows.leaf', [(1, 3, 3, 0), (2, 6, 6, 0), WORKED_ROWS[2]], 0, 12)
+    leaf('other-all.leaf', [(1, 4, 4, 0), (2, 8, 8, 0)], 0, 24)
+    by_hand('earlier.leaf', WORKED_ROWS, [(1, 1), (2, 1), (1, 9)])
+    by_hand('later.leaf', WORKED_ROWS, [(5, 2), (16_777_216, MOST_NUMBER), (12, 5)], 3)
+    by_hand('misses.leaf', WORKED_ROWS, [(0, 1), (0, 2), (0, 3)])
+    by_hand('misses-1.leaf', WORKED_ROWS, [(0, 1), (3, 1), (0, 4)], 64)
+    by_hand('far.leaf', [(1, HORIZON, HORIZON, HORIZON - 1)], [(HORIZON, MOST_NUMBER)], 64, HORIZON)
+    put('komma,"blätter".leaf', files['worked.exact.leaf'])
+
+
+def damaged_leaves():
+    """Leaves with every refusal that reading gives, by number."""
+    whole = files['worked.linear-3.leaf']
+    row, finding = write_row(1, 4, 4, 0), write_finding(1, 1)
+    full = b''.join(write_row(*numbers) for numbers in FULL_ROWS)
+    exact = write_heading(12, 0, 0)
+
+    def changed(at, *values):
+        return whole[:at] + bytes(values) + whole[at + len(values):]
+
+    damaged = {
+        '01-zero': write_heading(0, 0, 0) + write_end(1),
+        '01-large': write_heading(HORIZON + 1, 9, 9),
+        '03-exact': write_heading(12, 0, 1) + write_end(1),
+        '03-zero': changed(6, 0),
+        '03-large': changed(6, 65),
+        '04': changed(24 + 1, 0, 0, 0, 0),
+        '05': changed(58, 0x52),
+        '05-sum': exact + write_row(MOST_NUMBER, MOST_NUMBER, MOST_NUMBER, MOST_NUMBER),
+        '06': changed(41 + 8, 13),
+        '07': exact + write_row(1, 4, HORIZON + 1, 0) + finding + write_end(3),
+        '08': changed(4, 10),
+        '09': write_heading(720, 0, 0) + full + row + b'A',
+        '09-letter': write_heading(720, 1, 64) + full + b'R',
+        '13-empty': b'',
+        '13-letter': b'F',
+        '13-heading': whole[:6],
+        '13-no-end': whole[:7],
+        '13-row': whole[:30],
+        '13-rows': whole[:58],
+        '13-finding': whole[:75],
+        '13-findings': whole[:85],
+        '13-end': whole[:89],
+        '14-zero': b'\x00',
+        '14-small': b'f' + whole[1:],
+        '14-row': changed(41, 0xff),
+        '14-text': b'name,work,deadline,period\n',
+        '15-row': b'R',
+        '15-end': b'Z' + whole,
+        '15-heading': exact + exact,
+        '15-late-row': exact + row + finding + row,
+        '16-finding': exact + finding,
+        '16-early-end': exact + row + row + finding + write_end(4),
+        '16-second': exact + row + finding + finding + write_end(4),
+        '16-number': changed(89, 6),
+        '17-points': changed(58 + 8, 0),
+        '17-rest': changed(67 + 1, 1, 0, 0, 1),
+        '18': whole + b'\x00',
+        '18-leaf': whole + whole,
+        '20': changed(5, 2),
+    }
+    for name, data in damaged.items():
+        put(f'd{name}.leaf', data)
+        answer_to = read_leaf(data)
+        assert answer_to[0] == 'refused' and answer_to[1] == int(name[:2]), f'{name}: {answer_to}'
+    return [f'd{name}.leaf' for name in damaged]
+
+
+def shows():
+    """What leaves hold, for people and for programs."""
+    good_leaves()
+    damaged = damaged_leaves()
+    ask('show worked.linear-3.leaf', LINEAR_3_TOLD)
+    ask('show worked.linear-3.leaf worked.exact.leaf', LINEAR_3_TOLD + '\n' + EXACT_TOLD)
+    ask('show d13-end.leaf',
+        'd13-end.leaf: refused 13 cut leaf at byte 89, around it 00 00 00 04 5a 00 00 00 []\nstatus 1\n')
+    ask('show d13-empty.leaf', 'd13-empty.leaf: refused 13 cut leaf at byte 0, around it []\nstatus 1\n')
+    ask('show d05.leaf',
+        'd05.leaf: refused 5 no window at byte 58, around it 00 00 00 0c 00 00 00 00 [52] 00 00 00 01 00 00 00\nstatus 1\n')
+    ask('show worked.exact.leaf d18.leaf worked.linear-3.leaf', EXACT_TOLD + '\n'
+        + 'd18.leaf: refused 18 loose bytes at byte 90, around it 00 00 04 5a 00 00 00 07 [00]\n\n' + LINEAR_3_TOLD + 'status 1\n')
+    ask('show none.exact.leaf', 'none.exact.leaf: exact steps, frame 1, 0 rows\n'
+        'rank  work  deadline  period  jitter  first rest  response  points\n')
+    ask('show none.linear-7.leaf one.leaf')
+    ask('show full.exact.leaf full.linear-64.leaf')
+    ask('show both-miss.exact.leaf both-miss.linear-2.leaf tail-misses.linear-2.leaf')
+    ask('show jitters.exact.leaf jitters.linear-2.leaf horizon.exact.leaf horizon.linear-2.leaf')
+    ask('show earlier.leaf later.leaf misses.leaf misses-1.leaf far.leaf')
+    ask('show komma,"blätter".leaf')
+    ask('show worked.csv d13-letter.leaf')
+    ask(f'show {" ".join(damaged)}')
+    ask('show --csv full.linear-1.leaf later.leaf')
+    for form in ('--csv', '--json'):
+        ask(f'show {form}', {'--json': '[]\n'}.get(form))
+        ask(f'show {form} none.exact.leaf none.linear-7.leaf')
+        ask(f'show {form} worked.exact.leaf d13-end.leaf none.exact.leaf misses-1.leaf')
+        ask(f'show {form} komma,"blätter".leaf far.leaf')
+        ask(f'show {form} {" ".join(damaged)}')
+
+
+def compares():
+    """Two leaves beside each other."""
+    ask('compare worked.exact.leaf worked.linear-1.leaf', COMPARE_TOLD)
+    ask('compare later.leaf earlier.leaf', EARLIER_TOLD)
+    ask('compare worked.exact.leaf earlier.leaf', NOT_LATER_TOLD)
+    ask('compare later.leaf misses-1.leaf', PART_EARLIER_TOLD)
+    for line in [
+        'worked.exact.leaf worked.exact.leaf', 'worked.linear-2.leaf worked.linear-3.leaf',
+        'worked.exact.leaf misses.leaf', 'misses.leaf misses.leaf', 'none.exact.leaf none.exact.leaf',
+        'full.exact.leaf full.linear-1.leaf', 'both-miss.exact.leaf both-miss.linear-2.leaf',
+        'tail-misses.exact.leaf tail-misses.linear-2.leaf', 'chance-09.exact.leaf chance-09.linear-1.leaf',
+        'komma,"blätter".leaf worked.linear-64.leaf',
+    ]:
+        ask(f'compare {line}')
+    ask('compare worked.exact.leaf frame-24.leaf', trouble('the frames differ, 12 and 24'))
+    ask('compare none.linear-7.leaf worked.exact.leaf', trouble('the frames differ, 16777216 and 12'))
+    ask('compare worked.linear-3.leaf two-rows.leaf', trouble('3 rows and 2'))
+    ask('compare worked.linear-3.leaf other-jitter.leaf', trouble('rank 2 is 2 6 6 1 and 2 6 6 0'))
+    ask('compare other-rows.leaf worked.linear-3.leaf', trouble('rank 1 is 1 3 3 0 and 1 4 4 0'))
+    ask('compare two-rows.leaf other-all.leaf', trouble('the frames differ, 12 and 24'))
+    ask('compare two-rows.leaf other-rows.leaf', trouble('2 rows and 3'))
+    ask('compare d13-end.leaf worked.exact.leaf',
+        trouble('d13-end.leaf: refused 13 cut leaf at byte 89, around it 00 00 00 04 5a 00 00 00 []'))
+    ask('compare frame-24.leaf d13-empty.leaf', trouble('d13-empty.leaf: refused 13 cut leaf at byte 0, around it []'))
+    ask('compare d14-zero.leaf d13-empty.leaf', trouble('d14-zero.leaf: refused 14 strange letter at byte 0, around it [00]'))
+
+
+# --- Scripts -----------------------------------------------------------------------------------------------
+
+SCRIPT = lines(
+    '# three tasks', 'linear 2', 'frame 12', 'admit 1 1 4 4 0', 'admit 2 2 6 6 1', 'admit 3 3 12 12 0', 'dismiss 1',
+    'admit 2 3 12 12 0', 'inquire 2', 'inquire 3', 'frame 24', 'admit two',
+)
+
+SCRIPT_TOLD = """\
+done
+done
+done
+refused 11 overload at rank 3
+done
+done
+row 3 12 12 0 meets 5 points 1
+refused 10 no rank
+refused 2 standing rows
+not a call at line 12: expected admit RANK C D T J
+"""
+
+
+def scripts():
+    """Scripts of calls."""
+    put('worked.script', SCRIPT)
+    ask('bench worked.script', SCRIPT_TOLD)
+    put('lines.script', lines(
+        'frame 12', 'linear 65', 'linear', '\t exact \r', '', ' ', '# frame 0', 'exact', 'frame 0', 'frame 16777217', 'frame 4294967296',
+        'frame 0012', 'admit 1 0 4 4 0', 'admit 1 4 4 4 1', 'admit 1 4 5 4 1', 'admit 1 1 4 16777217 0', 'admit 1 1 5 5 0',
+        'admit 2 1 4 4 0', 'admit 1 1 4 4 0', 'admit\t2  2 6 6 1 ', 'admit 3 3 12 12 0', 'inquire 3', 'admit 1 3 12 12 0', 'dismiss 0',
+        'dismiss 4', 'dismiss -1', f'inquire 1{130 * " "}', 'inquire 1', 'dismiss 3', 'dismiss 2', 'dismiss 1', 'frame 1', 'inquire 1',
+    ) + 'admit 1 1 1 1 0')
+    ask('bench lines.script')
+
+
+# --- Writing -----------------------------------------------------------------------------------------------
+
+
+def make_cases():
+    """Adds all files and command lines."""
+    for make in [
+        forms, names, counted, random_tables, bad_headings, bad_fields, bad_numbers, large_numbers, bad_bytes, refused_tables,
+        refused_options, plots, sheets, shows, compares, scripts,
+    ]:
+        make()
+
+
+def check_tables():
+    """Holds the counts of each table to what docs/RULES.md says of them."""
+    for frame, rows, accuracy in dict.fromkeys(judged_tables):
+        for at, row in enumerate(rows):
+            if window(row) <= WIDEST:
+                check_case(frame, row, rows[:at], accuracy, in_full=False)
+
+
+# What must be told somewhere: every refusal, and every other form of what is told.
+FORMS = [f'refused {number} {words}' for number, words in WORDS.items()] + [
+    'misses    -', 'of 32 rows meet', '0 of 0 rows meet', '0.01 %', 'stands there, expected a number from 0 to 4294967295\n',
+    'fields stand there, expected', 'stands there again', 'no heading', 'a task more', 'nothing stands there', 'no text',
+    'expected at least 1', 'less the jitter', 'is below the jitter', 'at most the period', 'at most 16777216', 'a divisor of the frame',
+    'expected --frame', 'no common multiple', 'expected --linear', 'expected --rank', 'the table has no row', 'at ranks 1, 3\n',
+    'part nowhere', 'the frames differ', ' rows and ', 'misses points', 'status 1',
+]
+
+
+def main():
+    """Writes the files, the command lines and the answers."""
+    if len(sys.argv) > 2:
+        sys.exit('use: view_cases.py [FOLDER]')
+    folder = Path(sys.argv[1] if len(sys.argv) == 2 else Path(__file__).parent.parent / 'crates' / 'viewings')
+    make_cases()
+    check_tables()
+    told = []
+    for line, named in expected.items():
+        answered = answer(line.split(' '), files.__getitem__)
+        assert named in (None, answered), f'{line}\n{answered}, not\n{named}'
+        told.append(f'=== {line}\n{answered}')
+    stdin, stdout = lines(*expected), ''.join(told)
+    for form in FORMS:
+        assert form in stdout, form
+    used = {word for line in expected for word in line.split(' ')}
+    assert set(files) <= used, set(files) - used
+    assert sum(map(len, files.values())) < 300_000
+
+    data = folder / 'data'
+    data.mkdir(parents=True, exist_ok=True)
+    strangers = sorted({path.name for path in data.iterdir()} - set(files))
+    if strangers:
+        sys.exit(f'view_cases.py: {data} has files that are none of these: {", ".join(strangers)}')
+    for name, content in files.items():
+        (data / name).write_bytes(content)
+    (folder / 'stdin').write_bytes(stdin.encode('utf-8'))
+    (folder / 'stdout').write_bytes(stdout.encode('utf-8'))
+    print(f'{len(files)} files, {sum(map(len, files.values()))} bytes; {len(expected)} command lines', file=sys.stderr)
+
+
+if __name__ == '__main__':
+    main()
