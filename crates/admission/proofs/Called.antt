@@ -18,7 +18,7 @@ use Rattle.rows.proofs.Checks.{given_is, passed_first, passes_on, places_pass}
 use Rattle.rows.proofs.SameRow.{rows_of_plain}
 use Rattle.bounds.specs.Meaning.{Meaning}
 use Rattle.verdicts.specs.declared.verdicts.Finding.{Finding}
-use Rattle.verdicts.specs.Found.{Found, tells}
+use Rattle.verdicts.specs.Found.{Found, tells, is_met, is_miss}
 use Rattle.findings.specs.Findings.{row_finding}
 use Rattle.findings.proofs.Tables.{finding_below_at}
 use Rattle.findings.specs.Tables.{findings_of}
@@ -28,7 +28,7 @@ use Rattle.admission.specs.declared.calls.Reply.{Reply}
 use Rattle.admission.specs.declared.calls.Reply.TheVariants.{Done, Refused}
 use Rattle.admission.specs.declared.keeping.Table.{Table}
 use Rattle.admission.specs.Benches.{Held, bench, Does, IsCounted, Keeps, table_rows, table_findings}
-use Rattle.admission.specs.Books.{Book, book, checks_of, is_met, is_miss, is_rank, once_done, told, with_newcomer, without}
+use Rattle.admission.specs.Books.{Book, book, checks_of, is_rank, once_done, told, with_newcomer, without}
 use Rattle.admission.specs.Replies.{Told, answer_of, done, row_found}
 use Rattle.admission.proofs.Steps.{Sound, step_given, step_refused}
 

@@ -6,11 +6,10 @@ use Rattle.std.proofs.lemmas.List.{append_assoc, append-nil, get_or_at, length-a
 use Rattle.std.proofs.lemmas.List.Elements.{All-nil}
 use Rattle.rows.specs.declared.tasks.Row.{Row}
 use Rattle.bounds.specs.Meaning.{Meaning}
-use Rattle.verdicts.specs.Found.{Found}
+use Rattle.verdicts.specs.Found.{Found, is_met}
 use Rattle.findings.specs.Findings.{row_finding}
 use Rattle.findings.specs.Tables.{findings_below, findings_of}
 use Rattle.findings.proofs.Tables.{length_findings_below, finding_below_at}
-use Rattle.admission.specs.Books.{is_met}
 
 module _ (m : Meaning) (h : ℕ) where
   -- the findings of rows one after the other are those of the first, and those of the others below them

@@ -15,7 +15,8 @@ use Rattle.brackets.specs.Bracketing.{IsNoLater}
 use Rattle.brackets.proofs.Earlier.{some_earlier}
 use Rattle.brackets.proofs.Tails.{finer_tails}
 use Rattle.admission.specs.declared.calls.Call.TheVariants.{Admit}
-use Rattle.admission.specs.Books.{Book, is_met, is_miss, with_newcomer, step}
+use Rattle.verdicts.specs.Found.{is_met, is_miss}
+use Rattle.admission.specs.Books.{Book, with_newcomer, step}
 use Rattle.admission.specs.Promises.{FinerAdmits, FinerRests}
 use Rattle.admission.specs.Replies.{done}
 use Rattle.admission.specs.Runs.{book_after}

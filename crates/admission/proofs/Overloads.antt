@@ -18,7 +18,8 @@ use Rattle.findings.proofs.Tables.{length_findings_below}
 use Rattle.brackets.proofs.Bracket.{brackets}
 use Rattle.admission.specs.declared.calls.Call.{Call}
 use Rattle.admission.specs.declared.calls.Call.TheVariants.{Frame, Admit, Dismiss, Inquire}
-use Rattle.admission.specs.Books.{Book, with_newcomer, is_met, is_miss, checks_of, first_book, told, step}
+use Rattle.verdicts.specs.Found.{is_met, is_miss}
+use Rattle.admission.specs.Books.{Book, with_newcomer, checks_of, first_book, told, step}
 use Rattle.admission.specs.Promises.{NamesMiss, OverloadsMiss}
 use Rattle.admission.specs.Replies.{Told}
 use Rattle.admission.specs.Runs.{book_after, answers_to, answers_from}

@@ -25,10 +25,6 @@ module _ (m : Meaning) where
   pub book_after_push : (calls : List Call) (c : Call) → book_after m (calls ++ c ∷ []) ≡ (step m (book_after m calls) c).0
   book_after_push calls c = book_from_append first_book calls (c ∷ [])
 
-  -- and the answers with one more
-  pub answers_to_push : (calls : List Call) (c : Call) → answers_to m (calls ++ c ∷ []) ≡ answers_to m calls ++ (step m (book_after m calls) c).1 ∷ []
-  answers_to_push calls c = answers_from_append first_book calls (c ∷ [])
-
   -- there are as many answers as calls
   pub length_answers_to : (calls : List Call) → length (answers_to m calls) ≡ length calls
   length_answers_to calls = length_answers_from first_book calls

@@ -12,7 +12,7 @@ use Rattle.rows.specs.Counting.{is_on_frame}
 use Rattle.rows.specs.Times.{is_frame, most_rows}
 use Rattle.rows.proofs.Checks.{first_passes, each_passes}
 use Rattle.bounds.specs.Meaning.{Meaning}
-use Rattle.verdicts.specs.Found.{Found}
+use Rattle.verdicts.specs.Found.{Found, is_met, is_miss}
 use Rattle.findings.specs.Countable.{StandOn}
 use Rattle.findings.specs.Findings.{row_finding}
 use Rattle.findings.specs.Tables.{findings_below, findings_of}
@@ -20,7 +20,7 @@ use Rattle.brackets.proofs.Bracket.{fewer_above}
 use Rattle.brackets.proofs.Earlier.{some_earlier}
 use Rattle.admission.specs.declared.calls.Call.{Call}
 use Rattle.admission.specs.declared.calls.Call.TheVariants.{Frame, Admit, Dismiss, Inquire}
-use Rattle.admission.specs.Books.{Book, book, first_book, with_newcomer, without, is_met, is_miss, is_rank, checks_of, once_done, told, step}
+use Rattle.admission.specs.Books.{Book, book, first_book, with_newcomer, without, is_rank, checks_of, once_done, told, step}
 use Rattle.admission.specs.Replies.{Told}
 use Rattle.admission.specs.Runs.{book_from, book_after}
 use Rattle.admission.proofs.Findings.{findings_append}

@@ -4,13 +4,13 @@ use Rattle.std.specs.List.{AllPass}
 use Rattle.rows.specs.declared.tasks.Row.{Row}
 use Rattle.rows.specs.Times.{most_rows}
 use Rattle.bounds.specs.Meaning.{Meaning}
-use Rattle.verdicts.specs.Found.{Found, tells}
+use Rattle.verdicts.specs.Found.{Found, tells, is_met}
 use Rattle.findings.specs.Countable.{StandOn}
 use Rattle.findings.specs.Tables.{findings_of}
 use Rattle.admission.specs.declared.calls.Call.{Call}
 use Rattle.admission.specs.declared.calls.Reply.{Reply}
 use Rattle.admission.specs.declared.keeping.Table.{Table}
-use Rattle.admission.specs.Books.{Book, is_met, step}
+use Rattle.admission.specs.Books.{Book, step}
 use Rattle.admission.specs.Replies.{answer_of}
 
 -- what a caller sees of a bench: its bound, its book, and the finding that it keeps for each row of the book
@@ -23,10 +23,11 @@ pub record Held (B : Type 0) : Type 0 where
 abbrev pub bench : {B : Type 0} → Meaning → B → Book → Held B
 bench m bound b = record { bound = bound; book = b; findings = findings_of m b.frame b.rows }
 
--- the rows and the findings that stand in a table, in rank order: as many as are counted
+-- the rows that stand in a table, in rank order: as many as are counted
 abbrev pub table_rows : Table → List Row
 table_rows t = take t.count t.rows
 
+-- what is found about them, in the same order
 abbrev pub table_findings : Table → List Found
 table_findings t = map tells (take t.count t.findings)
 

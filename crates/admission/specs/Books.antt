@@ -1,5 +1,5 @@
 -- The book of a bench, and a call on it.
-use Rattle.std.specs.Prelude.{ℕ, ◌+◌, ◌-◌, Bool, not, ◌&&◌, List, [], ◌∷◌, ◌++◌, length, take, drop, is_some, nat_le, nat_lt}
+use Rattle.std.specs.Prelude.{ℕ, ◌+◌, ◌-◌, Bool, not, ◌&&◌, List, [], ◌∷◌, ◌++◌, length, take, drop, nat_le, nat_lt}
 use Rattle.std.specs.Option.{option_map, unwrap_or}
 use Rattle.rows.specs.declared.tasks.Numbers.{Numbers}
 use Rattle.rows.specs.declared.tasks.Row.{Row}
@@ -8,7 +8,7 @@ use Rattle.rows.specs.Judging.{plain, rows_of, frame_flaws, flaw_checks}
 use Rattle.rows.specs.Lists.{at_rank}
 use Rattle.rows.specs.Times.{is_frame, most_rows}
 use Rattle.bounds.specs.Meaning.{Meaning}
-use Rattle.verdicts.specs.Found.{Found}
+use Rattle.verdicts.specs.Found.{is_miss}
 use Rattle.findings.specs.Findings.{row_finding}
 use Rattle.findings.specs.Tables.{findings_of}
 use Rattle.admission.specs.declared.calls.Call.{Call}
@@ -39,14 +39,6 @@ with_newcomer rank n rows = take (rank - 1) rows ++ (rows_of (n ∷ []) ++ drop 
 -- the rows without the one at a rank; those below it move up
 abbrev pub without : ℕ → List Row → List Row
 without rank rows = take (rank - 1) rows ++ drop rank rows
-
--- a finding says that its row meets: there is a first rest
-abbrev pub is_met : Found → Bool
-is_met f = is_some f.rest
-
--- or that it misses
-abbrev pub is_miss : Found → Bool
-is_miss f = not (is_met f)
 
 -- what is checked of a call on a book, in order. Overload, 11, tells the smallest rank at which a row misses with the
 -- newcomer in place; nothing else tells a rank

@@ -13,7 +13,8 @@ use Rattle.findings.specs.Tables.{findings_of}
 use Rattle.brackets.specs.Bracketing.{IsNoLater, slow_rest}
 use Rattle.admission.specs.declared.calls.Call.{Call}
 use Rattle.admission.specs.declared.calls.Call.TheVariants.{Admit}
-use Rattle.admission.specs.Books.{is_met, step, with_newcomer}
+use Rattle.verdicts.specs.Found.{is_met}
+use Rattle.admission.specs.Books.{step, with_newcomer}
 use Rattle.admission.specs.Replies.{done}
 use Rattle.admission.specs.Runs.{book_after, answers_to}
 

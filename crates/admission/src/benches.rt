@@ -33,12 +33,12 @@ impl<B: Bound> Model for Bench<B> {
 impl<B: Bound> Bench<B> {
     ghost use Rattle.std.specs.Prelude.{◌≡◌, map, OnErr};
     ghost use Rattle.std.specs.List.{AllPass};
-    ghost use Rattle.verdicts.specs.Found.{tells};
+    ghost use Rattle.verdicts.specs.Found.{tells, is_met};
     ghost use Rattle.findings.specs.Countable.{CanBeCounted};
     ghost use Rattle.findings.specs.Tables.{findings_of};
     ghost use Rattle.rows.specs.Times.{most_rows};
     ghost use Rattle.admission.specs.Benches.{bench, Does};
-    ghost use Rattle.admission.specs.Books.{first_book, is_met};
+    ghost use Rattle.admission.specs.Books.{first_book};
     ghost use Rattle.admission.specs.Replies.{as_done, as_found, IfRefused};
     ghost use Rattle.admission.specs.declared.calls.Call.{Call};
 

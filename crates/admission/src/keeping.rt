@@ -4,11 +4,10 @@ ghost use Rattle.std.specs.List.{insert, remove};
 ghost use Rattle.rows.specs.Counting.{is_on_frame};
 ghost use Rattle.rows.specs.Lists.{written};
 ghost use Rattle.rows.specs.Times.{most_rows};
-ghost use Rattle.verdicts.specs.Found.{tells};
+ghost use Rattle.verdicts.specs.Found.{tells, is_miss};
 ghost use Rattle.findings.specs.Countable.{CanBeCounted};
 ghost use Rattle.findings.specs.Tables.{findings_of};
 ghost use Rattle.admission.specs.Benches.{IsCounted, table_rows, table_findings};
-ghost use Rattle.admission.specs.Books.{is_miss};
 
 use crate::edits::{put_in, take_out};
 use bounds::Bound;

@@ -18,7 +18,7 @@ use Rattle.rows.specs.Times.{horizon, most_rows}
 use Rattle.rows.proofs.Checks.{first_passes, given_is, gives_any, passes_on, places_pass_on, refuses_any}
 use Rattle.rows.proofs.SameRow.{same_row}
 use Rattle.bounds.specs.Meaning.{Meaning}
-use Rattle.verdicts.specs.Found.{Found, tells}
+use Rattle.verdicts.specs.Found.{Found, tells, is_met, is_miss}
 use Rattle.verdicts.specs.declared.verdicts.Finding.{Finding}
 use Rattle.findings.specs.Countable.{CanBeCounted}
 use Rattle.findings.specs.Findings.{row_finding}
@@ -27,7 +27,7 @@ use Rattle.admission.specs.declared.calls.Call.TheVariants.{Admit, Dismiss, Inqu
 use Rattle.admission.specs.declared.calls.Reply.{Reply}
 use Rattle.admission.specs.declared.calls.Reply.TheVariants.{Found as FoundRow}
 use Rattle.admission.specs.Benches.{Held, bench, Does}
-use Rattle.admission.specs.Books.{Book, book, checks_of, is_met, is_miss, is_rank, step, told, without}
+use Rattle.admission.specs.Books.{Book, book, checks_of, is_rank, step, told, without}
 use Rattle.admission.specs.Replies.{Told, answer_of, as_done, done, row_found}
 use Rattle.admission.proofs.Called.{admits, newcomer_is}
 use Rattle.admission.proofs.Entry.{rank_within}

@@ -107,16 +107,6 @@ fn is_no_later(first: Option<u32>, other: Option<u32>) -> bool
     }
 }
 
-// The first rest that a verdict carries.
-fn rest(verdict: Verdict) -> Option<u32>
-    ensures { result ≡ verdict_rest verdict }
-{
-    match verdict {
-        Verdict::Meets(rest) => Some(rest),
-        Verdict::Misses => None,
-    }
-}
-
 impl Counted {
     ghost use Rattle.row_vectors.specs.Agreeing.{IsInOrder};
 
@@ -135,8 +125,8 @@ impl Counted {
     fn is_in_order(&self) -> bool
         ensures { IsTrue result ↔ IsInOrder self.now }
     {
-        let bounded = rest(self.bounded.verdict);
-        is_no_later(rest(self.exact.verdict), bounded) && is_no_later(bounded, self.slow)
+        let bounded = self.bounded.verdict.rest();
+        is_no_later(self.exact.verdict.rest(), bounded) && is_no_later(bounded, self.slow)
     }
 
     // How many ticks later the row rests by the tail than in exact steps, where it meets by both.
@@ -145,7 +135,7 @@ impl Counted {
         ensures { result
             ≡ gap (verdict_rest self.now.exact.verdict) (verdict_rest self.now.bounded.verdict) }
     {
-        match (rest(self.exact.verdict), rest(self.bounded.verdict)) {
+        match (self.exact.verdict.rest(), self.bounded.verdict.rest()) {
             (Some(exact), Some(bounded)) => Some(bounded - exact),
             _ => None,
         }

@@ -1,16 +1,12 @@
 -- Beginnings of what is written.
 use Rattle.std.proofs.Common.{◌≡◌, ℕ, ◌+◌, ◌<◌, List, ◌++◌, length, take, Option, Result, Ok, Err, OnOk, OnErr, sym, subst, arith, length-append}
-use Rattle.std.proofs.KnownBytes.{Appends-nil, Appends-trans, Appends-kept}
+use Rattle.std.proofs.KnownBytes.{Appends-trans, Appends-kept}
 use Rattle.std.proofs.lemmas.List.{take-append-le}
 use Rattle.std.specs.Io.KnownBytes.{Appends, Keeps}
 use Rattle.scripts.specs.Written.{Begun}
 use lib.Seq.{take-append-add, take-length}
 
--- nothing is a beginning
-pub Begun-none : (a : Option (List ℕ)) (bytes : List ℕ) → Begun a a bytes
-Begun-none a bytes = record { count = 0; within = omega arith; got = Appends-nil a }
-
--- and so is all
+-- all is a beginning
 pub Begun-all : (a b : Option (List ℕ)) (bytes : List ℕ) → Appends a b bytes → Begun a b bytes
 Begun-all a b bytes put = record { count = length bytes; within = omega arith; got = subst (Appends a b) (sym (take-length bytes)) put }
 

@@ -1,5 +1,4 @@
 pub mod WordList
-pub mod NumberOf
 pub mod Reading
 pub mod Clipping
 pub mod Printed

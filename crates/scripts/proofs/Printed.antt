@@ -5,15 +5,16 @@ use Rattle.std.specs.Char.{is_ascii_digit}
 use Rattle.std.specs.List.{filter, slice_split}
 use Rattle.std.specs.Str.{all_ascii_digits}
 use Rattle.std.proofs.lemmas.Bool.{and_parts, or_cases, false_from_ne_true, eqb-true, false≢true, lt-ltb, le-ltb}
-use Rattle.std.proofs.lemmas.Fmt.{decimal_is_IsNumeral, length-decimal-le}
+use Rattle.std.proofs.lemmas.Fmt.{length-decimal-le}
 use Rattle.std.proofs.lemmas.List.{length-append}
 use Rattle.admission.specs.declared.calls.Call.{Call as BenchCall}
 use Rattle.admission.specs.declared.calls.Call.TheVariants.{Frame, Admit, Dismiss, Inquire}
 use Rattle.scripts.specs.declared.lines.Line.TheVariants.{Call, Linear}
 use Rattle.scripts.specs.Lines.{line_of}
 use Rattle.scripts.specs.Texts.{call_text, linear_text, numbers_text, FitsLine}
-use Rattle.scripts.specs.Words.{is_blank, number_of, words_of}
-use Rattle.scripts.proofs.NumberOf.{own, number_of-yes}
+use Rattle.numerals.specs.Numerals.{is_blank, number_of}
+use Rattle.scripts.specs.Words.{words_of}
+use Rattle.numerals.proofs.NumberOf.{decimal_digits}
 
 digit_is_no_blank : (b : ℕ) → is_ascii_digit b ≡ true → is_blank b ≡ false
 digit_is_no_blank b d =
@@ -48,13 +49,12 @@ record Printed (n : ℕ) : Type 0 where
 
 printed : (n : ℕ) → n < 2 ^ 32 → Printed n
 printed n small =
-    let p = decimal_is_IsNumeral n (omega arith) in
-    let d : all_ascii_digits (decimal n) ≡ true = own.from (decimal n) p.0.1 in
+    let p = decimal_digits n small in
     record {
-      digits = d;
-      some = p.0.0;
+      digits = p.0;
+      some = p.1;
       short = length-decimal-le 10 n (omega arith) (omega arith) (omega arith);
-      read = number_of-yes (decimal n) d p.0.0 (omega (arith, p.1)) ∙ ap (λ k. Some k) p.1;
+      read = p.2;
     }
 
 words_of-first : (n : ℕ) (rest : List ℕ) → Printed n → words_of (decimal n ++ 32 ∷ rest) ≡ decimal n ∷ words_of rest

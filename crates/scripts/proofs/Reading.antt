@@ -5,7 +5,7 @@ use Rattle.std.proofs.lemmas.List.{at_drop_more, at_drop_all}
 use Rattle.scripts.specs.declared.forms.Field.{Field}
 use Rattle.scripts.specs.declared.forms.Field.TheVariants.{Rank}
 use Rattle.scripts.specs.Lines.{numbers_of, put_first}
-use Rattle.scripts.specs.Words.{number_of}
+use Rattle.numerals.specs.Numerals.{number_of}
 
 pub numbers_of_cons : (n : ℕ) (words : List (List ℕ)) (word : List ℕ) (rest : List (List ℕ)) → words ≡ word ∷ rest → number_of word ≡ Some n → (field : Field) (fields : List Field) → numbers_of (field ∷ fields) words ≡ put_first n (numbers_of fields rest)
 numbers_of_cons n words word rest e h field fields = rw (e, h) refl

@@ -1,13 +1,14 @@
 -- A run: bytes played block by block, and where it may end.
 use Rattle.std.proofs.Common.{◌≡◌, ℕ, List, [], ◌∷◌, ◌++◌, Option, None, Some, Result, Ok, Err, OnOk, IfErr, refl, sym, ap, subst, ◌∙◌, append_assoc, append-nil}
-use Rattle.std.proofs.KnownBytes.{Appends-nil, Appends-trans, Appends-kept, Consumes-nil, Consumes-trans, Consumes-kept}
+use Rattle.std.proofs.KnownBytes.{Appends-trans, Appends-kept, Consumes-trans, Consumes-kept}
 use Rattle.std.specs.Io.KnownBytes.{Appends, Consumes, IsAtEnd}
 use Rattle.std.specs.declared.io.Error.{Error}
 use Rattle.scripts.specs.declared.running.Failure.{Failure}
 use Rattle.scripts.specs.declared.running.Failure.TheVariants.{Reading, Writing}
 use Rattle.scripts.specs.Blocks.{PlayedOn, FailsBlock, FailsEnd}
 use Rattle.scripts.specs.Progress.{Progress, first_progress, after_byte, written_for_byte, after_bytes, written_for_bytes, written_last}
-use Rattle.scripts.specs.Runs.{script_output, ended_output, MayHold, Plays, HasPlayed, BeginsToPlay}
+use Rattle.streams.specs.Held.{MayHold}
+use Rattle.scripts.specs.Runs.{script_output, ended_output, Plays, HasPlayed, BeginsToPlay}
 use Rattle.scripts.specs.Written.{Begun}
 use Rattle.scripts.proofs.Agreeing.{first_output, whole_output}
 use Rattle.scripts.proofs.Beginnings.{Begun-all, Begun-longer, Begun-after}
@@ -21,10 +22,6 @@ written-append p [] ys = refl
 written-append p (x ∷ xs) ys =
     ap (λ t. written_for_byte p x ++ t) (written-append (after_byte p x) xs ys)
     ∙ sym (append_assoc (written_for_byte p x) (written_for_bytes (after_byte p x) xs) (written_for_bytes (after_bytes (after_byte p x) xs) ys))
-
--- before the first block
-pub PlayedOn-none : (p q : Progress) (a w : Option (List ℕ)) → q ≡ p → PlayedOn p q a a w w
-PlayedOn-none p q a w same = record { bytes = []; read = Consumes-nil a; played = same; written = Appends-nil w }
 
 -- one block more
 pub PlayedOn-more : (p q r : Progress) (a b c u v w : Option (List ℕ)) → PlayedOn p q a b u v → PlayedOn q r b c v w → PlayedOn p r a c u w

@@ -5,7 +5,8 @@ use Rattle.std.specs.Prelude.{nat_lt}
 use Rattle.std.proofs.lemmas.Bool.{lt-ltb}
 use Rattle.std.proofs.lemmas.List.Splits.{length-slice_split}
 use Rattle.std.proofs.lemmas.List.Sums.{length-filter, count_by-le-length}
-use Rattle.scripts.specs.Words.{is_blank, words_of}
+use Rattle.numerals.specs.Numerals.{is_blank}
+use Rattle.scripts.specs.Words.{words_of}
 
 -- a word has a byte
 abbrev has_byte : List ℕ → Bool

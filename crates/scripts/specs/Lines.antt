@@ -10,7 +10,8 @@ use Rattle.scripts.specs.declared.forms.Form.TheVariants.{Exact, Linear, Frame, 
 use Rattle.scripts.specs.declared.lines.Line.{Line}
 use Rattle.scripts.specs.declared.lines.Line.TheVariants.{Passed, Exact as ExactSteps, Linear as LinearTail, Call, NoCall}
 use Rattle.scripts.specs.Forms.{form_fields, form_for}
-use Rattle.scripts.specs.Words.{number_of, words_of}
+use Rattle.numerals.specs.Numerals.{number_of}
+use Rattle.scripts.specs.Words.{words_of}
 
 -- a number put in front of the numbers, where there are any
 abbrev pub put_first : ℕ → Result (List ℕ) Field → Result (List ℕ) Field

@@ -1,5 +1,5 @@
 -- What is written for a script, and what a run of it has written.
-use Rattle.std.specs.Prelude.{◌≡◌, ℕ, IsTrue, List, [], ◌∷◌, ◌++◌, Option, None, Some, map}
+use Rattle.std.specs.Prelude.{◌≡◌, ℕ, IsTrue, List, [], ◌∷◌, ◌++◌, Option, map}
 use Rattle.std.specs.List.{AllByRecursion, flat_map}
 use Rattle.std.specs.Io.KnownBytes.{Appends, Consumes, IsAtEnd}
 use Rattle.bounds.specs.Meaning.{Meaning, is_accuracy}
@@ -12,6 +12,7 @@ use Rattle.scripts.specs.Scripts.{line_feed, without_return, ended_lines, script
 use Rattle.scripts.specs.Sessions.{first_stage, output_from}
 use Rattle.scripts.specs.Texts.{answer_text, call_text, exact_text, linear_text, FitsLine}
 use Rattle.scripts.specs.Written.{Begun}
+use Rattle.streams.specs.Held.{MayHold}
 
 -- what is written for a script: what is for each of its lines, one after the other
 unfoldable pub script_output : List ℕ → List ℕ
@@ -20,11 +21,6 @@ script_output bytes = output_from first_stage (script_lines bytes)
 -- what is written for the lines that the line feeds of some bytes end
 unfoldable pub ended_output : List ℕ → List ℕ
 ended_output bytes = output_from first_stage (map without_return (ended_lines [] bytes))
-
--- bytes that a reader may hold: all that it is known to hold; any, where nothing is known of it
-abbrev pub MayHold : Option (List ℕ) → List ℕ → Type 0
-MayHold None bytes = Unit {0}
-MayHold (Some known) bytes = bytes ≡ known
 
 -- a run that has ended well has written what is written for all that the reader held, of which nothing is left
 pub record Plays (held left old new : Option (List ℕ)) : Type 0 where

@@ -1,5 +1,5 @@
 // What a line of a script says.
-ghost use Rattle.std.specs.Prelude.{◌≡◌, ℕ, ◌^◌, ◌<◌, ◌≤◌, Bool, true, false, List, length, take, MatchResult};
+ghost use Rattle.std.specs.Prelude.{◌≡◌, ℕ, ◌^◌, ◌<◌, Bool, true, false, List, length, take, MatchResult};
 ghost use Rattle.admission.specs.declared.calls.Call.{Call};
 ghost use Rattle.scripts.specs.Lines.{line_by_form, line_by_words, line_of};
 ghost use Rattle.scripts.specs.Texts.{call_text, exact_text, linear_text, FitsLine};

@@ -1,19 +1,14 @@
-// The words of a line, and the numbers that words are.
-ghost use Rattle.std.specs.Prelude.{◌≡◌, ◌≤◌, List, ◌∷◌, length, take, drop, MatchOption, MatchResult};
+// The words of a line, and the numbers among them.
+ghost use Rattle.std.specs.Prelude.{◌≡◌, ◌≤◌, List, ◌∷◌, length, take, MatchOption, MatchResult};
 ghost use Rattle.std.specs.List.{position_or_len, prefix_len};
 ghost use Rattle.std.specs.Iterator.{YieldsFirstRef, item_count};
 ghost use Rattle.scripts.specs.declared.forms.Field.{Field};
-ghost use Rattle.scripts.specs.Words.{is_blank, number_of, words_of};
+ghost use Rattle.numerals.specs.Numerals.{is_blank};
+ghost use Rattle.scripts.specs.Words.{words_of};
 ghost use Rattle.scripts.specs.Lines.{numbers_of, put_first};
 
 use crate::forms::Field;
-
-// Whether a byte parts words: a blank or a tab.
-fn is_blank(byte: u8) -> bool
-    ensures { result ≡ is_blank byte }
-{
-    byte == b' ' || byte == b'\t'
-}
+use numerals::{is_blank, number};
 
 // How many bytes that part words a line begins with.
 fn blank_length(line: &[u8]) -> usize
@@ -29,17 +24,6 @@ fn word_length(line: &[u8]) -> usize
     ensures within { result ≤ length line.now }
 {
     line.iter().take_while(|byte| !is_blank(**byte)).count()
-}
-
-// The number that a word is: one or more decimal digits, and below 2^32.
-fn number(word: &[u8]) -> Option<u32>
-    ensures { result ≡ number_of word.now }
-{
-    // `parse` would take a sign.
-    if word.first() == Some(&b'+') {
-        return None;
-    }
-    str::from_utf8(word).ok()?.parse::<u32>().ok()
 }
 
 // The words of a line, from the left.

@@ -1,9 +1,9 @@
-// Digests of findings, and how many of them meet.
-ghost use Rattle.std.specs.Prelude.{◌≡◌, map, fold, length, filter};
+// Digests of findings.
+ghost use Rattle.std.specs.Prelude.{◌≡◌, map, fold};
 ghost use Rattle.verdicts.specs.Found.{tells};
-ghost use Rattle.timing.specs.Digests.{digest_with, finding_meets};
+ghost use Rattle.timing.specs.Digests.{digest_with};
 
-use findings::{Finding, Verdict};
+use findings::Finding;
 
 // By so much a digest is multiplied before a number is added.
 const FACTOR: u64 = 6364136223846793005;
@@ -12,10 +12,7 @@ const FACTOR: u64 = 6364136223846793005;
 fn with_finding(digest: u64, finding: &Finding) -> u64
     ensures { result ≡ digest_with digest (tells finding.now) }
 {
-    let rest = match finding.verdict {
-        Verdict::Meets(rest) => rest,
-        Verdict::Misses => 0,
-    };
+    let rest = finding.verdict.rest().unwrap_or(0);
     let digest = digest.wrapping_mul(FACTOR).wrapping_add(u64::from(rest));
     digest
         .wrapping_mul(FACTOR)
@@ -29,14 +26,4 @@ pub(crate) fn with_findings(digest: u64, findings: &[Finding]) -> u64
     findings
         .iter()
         .fold(digest, |digest, finding| with_finding(digest, finding))
-}
-
-/// How many of the findings meet.
-pub(crate) fn count_met(findings: &[Finding]) -> usize
-    ensures { result ≡ length (filter finding_meets findings.now) }
-{
-    findings
-        .iter()
-        .filter(|finding| finding.verdict != Verdict::Misses)
-        .count()
 }

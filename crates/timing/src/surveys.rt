@@ -1,5 +1,5 @@
 // Surveys of many tables, timed.
-use crate::digests::{count_met, with_findings};
+use crate::digests::with_findings;
 use crate::outcomes::{NO_FINDINGS, Outcome};
 use crate::works::{Table, Work};
 use bounds::Bound;
@@ -7,6 +7,7 @@ use findings::recount;
 use rows::{Fault, MOST_ROWS};
 use std::rt::Clock;
 use std::time::Instant;
+use verdicts::count_met;
 
 // The digest after a survey of each table, and how many rows met.
 fn survey_round<B: Bound>(bound: &B, tables: &[Table], digest: u64) -> Result<(usize, u64), Fault> {

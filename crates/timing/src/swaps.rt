@@ -1,5 +1,5 @@
 // Swaps on a full bench, timed.
-use crate::digests::{count_met, with_findings};
+use crate::digests::with_findings;
 use crate::outcomes::Outcome;
 use crate::works::{Table, Work};
 use admission::Bench;
@@ -8,6 +8,7 @@ use bounds::Bound;
 use rows::{Fault, Numbers};
 use std::rt::Clock;
 use std::time::Instant;
+use verdicts::count_met;
 
 // A bench on which the rows of a table stand.
 fn filled<B: Bound + Drop>(bound: B, table: &Table) -> Result<Bench<B>, Fault> {

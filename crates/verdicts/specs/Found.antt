@@ -1,5 +1,5 @@
 -- A finding in plain numbers.
-use Rattle.std.specs.Prelude.{ℕ, Some, None, Option}
+use Rattle.std.specs.Prelude.{ℕ, Bool, not, Some, None, Option, is_some}
 use Rattle.verdicts.specs.declared.verdicts.Finding.{Finding}
 use Rattle.verdicts.specs.declared.verdicts.Verdict.{Verdict}
 use Rattle.verdicts.specs.declared.verdicts.Verdict.TheVariants.{Meets, Misses}
@@ -8,6 +8,14 @@ use Rattle.verdicts.specs.declared.verdicts.Verdict.TheVariants.{Meets, Misses}
 pub record Found : Type 0 where
   pub rest : Option ℕ
   pub points : ℕ
+
+-- what is found says that the row meets: there is a first rest
+abbrev pub is_met : Found → Bool
+is_met f = is_some f.rest
+
+-- or that it misses
+abbrev pub is_miss : Found → Bool
+is_miss f = not (is_met f)
 
 -- the first rest that a verdict carries: none where the row misses
 abbrev pub verdict_rest : Verdict → Option ℕ

@@ -4,4 +4,4 @@
 
 mod verdicts;
 
-pub use verdicts::{Finding, Verdict};
+pub use verdicts::{Finding, Verdict, count_met};

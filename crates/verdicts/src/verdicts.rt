@@ -1,7 +1,7 @@
 // What is found about a row.
-ghost use Rattle.std.specs.Prelude.{◌≡◌, ◌+◌};
+ghost use Rattle.std.specs.Prelude.{◌≡◌, ◌+◌, count_by};
 ghost use Rattle.std.specs.Option.{option_map};
-ghost use Rattle.verdicts.specs.Found.{verdict_rest};
+ghost use Rattle.verdicts.specs.Found.{is_met, tells, verdict_rest};
 
 use rows::Row;
 
@@ -20,15 +20,35 @@ pub struct Finding {
     pub points: u32,
 }
 
+impl Verdict {
+    /// The first rest, in ticks; none where the row misses (docs/RULES.md, Rests).
+    pub fn rest(&self) -> Option<u32>
+        ensures { result ≡ verdict_rest self.now }
+    {
+        match *self {
+            Verdict::Meets(rest) => Some(rest),
+            Verdict::Misses => None,
+        }
+    }
+}
+
 impl Finding {
     /// The first rest plus the row's jitter, in ticks: in exact steps the response time, by another
     /// bound a bound on it; none where the row misses.
     pub fn response_bound(&self, row: &Row) -> Option<u64>
         ensures { result ≡ option_map (λ t. t + row.now.jitter) (verdict_rest self.now.verdict) }
     {
-        match self.verdict {
-            Verdict::Meets(rest) => Some(u64::from(rest) + u64::from(row.jitter)),
-            Verdict::Misses => None,
-        }
+        let rest = self.verdict.rest()?;
+        Some(u64::from(rest) + u64::from(row.jitter))
     }
+}
+
+/// How many of some findings say that their row meets (docs/RULES.md, Rests).
+pub fn count_met(findings: &[Finding]) -> usize
+    ensures { result ≡ count_by (λ f. is_met (tells f)) findings.now }
+{
+    findings
+        .iter()
+        .filter(|finding| finding.verdict != Verdict::Misses)
+        .count()
 }

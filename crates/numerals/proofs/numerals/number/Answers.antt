@@ -1,8 +1,8 @@
 use Rattle.std.proofs.Common.{◌≢◌, get_or, rules, sym, subst, ◌∙◌}
 use Rattle.std.specs.Str.Parse.{ParsesUnsigned}
 use Rattle.std.proofs.lemmas.Str.Parse.{parse_plain}
-use Rattle.scripts.proofs.NumberOf.{own, no_text, text_of, read_number}
-use Rattle.scripts.proofs.words.number.Goals as goal
+use Rattle.numerals.proofs.NumberOf.{own, no_text, text_of, read_number}
+use Rattle.numerals.proofs.numerals.number.Goals as goal
 
 pub returns-in_err-ok : goal.returns-in_err-ok
 returns-in_err-ok c =

@@ -1,14 +1,14 @@
 -- The number that a word is, by what the library reads.
-use Rattle.std.proofs.Common.{◌≡◌, ℕ, ◌<◌, ◌^◌, true, false, cond, ◌&&◌, List, length, Some, None, Result, Ok, Err, MatchResult, refl, sym, ap, ◌∙◌}
-use Rattle.std.specs.Prelude.{nat_lt}
+use Rattle.std.proofs.Common.{◌≡◌, ℕ, ◌<◌, ◌^◌, true, false, cond, ◌&&◌, List, length, Some, None, Result, Ok, Err, MatchResult, refl, sym, ap, ◌∙◌, arith}
+use Rattle.std.specs.Prelude.{nat_lt, decimal}
 use Rattle.std.specs.Result.{OkIff, result_ok}
 use Rattle.std.specs.Str.{all_ascii_digits, IsUtf8}
 use Rattle.std.specs.Str.Parse.{digits_value}
 use Rattle.std.proofs.lemmas.Bool.{and_parts, lt-ltb, ltb-true, false_from_ne_true}
 use Rattle.std.proofs.lemmas.Str.Parse.{IsNumeralModel, numerals_by_value, tells_all_ascii_digits}
-use Rattle.std.proofs.lemmas.Fmt.{IsAscii-from_digits}
+use Rattle.std.proofs.lemmas.Fmt.{IsAscii-from_digits, decimal_is_IsNumeral}
 use Rattle.std.proofs.lemmas.Str.{IsUtf8-from_ascii}
-use Rattle.scripts.specs.Words.{is_number, number_of}
+use Rattle.numerals.specs.Numerals.{is_number, number_of}
 
 -- the library's words for digits and their value
 pub own : IsNumeralModel (λ ds. all_ascii_digits ds ≡ true) (digits_value 10)
@@ -43,3 +43,10 @@ text_of now w s (Err x) A B h e = absurd (cc)
 pub read_number : {E : Type 0} (w : List ℕ) (r : Result ℕ E) → OkIff r ((all_ascii_digits w ≡ true) × (0 < length w) × (digits_value 10 w < 2 ^ 32)) (digits_value 10 w) → result_ok r ≡ number_of w
 read_number w (Ok x) h = ap (λ n. Some n) h.1 ∙ sym (number_of-yes w h.0.0 h.0.1 h.0.2)
 read_number w (Err e) h = sym (number_of-no w h)
+
+-- a number of 32 bits that is written in decimal: its digits, and that it reads as itself
+pub decimal_digits : (n : ℕ) → n < 2 ^ 32 → (all_ascii_digits (decimal n) ≡ true) × (0 < length (decimal n)) × (number_of (decimal n) ≡ Some n)
+decimal_digits n small =
+    let p = decimal_is_IsNumeral n (omega arith) in
+    let d : all_ascii_digits (decimal n) ≡ true = own.from (decimal n) p.0.1 in
+    (d, p.0.0, number_of-yes (decimal n) d p.0.0 (omega (arith, p.1)) ∙ ap (λ k. Some k) p.1)
