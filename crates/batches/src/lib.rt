@@ -71,6 +71,8 @@ impl Batches {
 }
 
 impl Bound for Batches {
+    ghost use Rattle.bounds.specs.Answering.{IsFloor, own_floor};
+    ghost use Rattle.bounds.specs.Supplied.{exact_steps};
     ghost use Rattle.batches.specs.Batching.{batches};
     ghost use Rattle.batches.specs.Making.{parameters_of};
     ghost use Rattle.batches.specs.Lemmas.BatchLaws.{laws_of};
@@ -85,6 +87,14 @@ impl Bound for Batches {
         }
         let jobs = self.batch_count(job_count(row, at));
         u64::from(frame) * (u64::from(row.work) * jobs)
+    }
+
+    // The exact steps: batches have no amount below them.
+    fn floor(&self, frame: u32, row: &Row, at: u32) -> u64
+        ensures under { IsFloor (batches (parameters_of self.now)) frame row.now at result }
+        ensures own { result ≡ own_floor exact_steps frame row.now at }
+    {
+        ExactSteps.floor(frame, row, at)
     }
 
     // Every instant at which exact steps rise: more corners than the amount has bends, which the

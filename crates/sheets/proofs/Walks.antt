@@ -9,13 +9,11 @@ use Rattle.rows.specs.Times.{most_rows}
 use Rattle.leaves.specs.declared.entries.Heading.{Heading}
 use Rattle.leaves.specs.declared.entries.Entry.TheVariants.{Heading as heading, Row as row}
 use Rattle.leaves.specs.Contents.{bytes_of}
-use Rattle.leaves.specs.Entries.{entry_bytes}
 use Rattle.reading.specs.declared.phases.Phase.{Phase}
-use Rattle.reading.specs.declared.phases.Phase.TheVariants.{Opening, Rows}
+use Rattle.reading.specs.declared.phases.Phase.TheVariants.{Rows}
 use Rattle.reading.specs.Grammar.{Step, stands}
-use Rattle.reading.specs.Stepping.{Reading, reading, TakesEntry}
+use Rattle.reading.specs.Stepping.{Reading, TakesEntry}
 use Rattle.reading.proofs.Runs.{bytes_push}
-use Rattle.writing.proofs.Leaves.{opens_rows}
 use Rattle.sheets.specs.Reading.{row_checks, phase_after, IsRefusedAt, in_rows, Fits}
 use Rattle.sheets.specs.Tables.{Table, table, IsLawful, sheet_bytes, sheet_entries}
 
@@ -24,16 +22,6 @@ pub record HasRead (bytes : List ℕ) (t : Table) (here : Reading) : Type 0 wher
   pub phase : here.phase ≡ phase_after t
   pub split : bytes ≡ sheet_bytes t ++ here.left
   pub lawful : IsLawful t
-
--- it has read the heading
-pub read_heading : (bytes : List ℕ) (old : Reading) (h : Heading) (new : Reading) → old ≡ reading Opening bytes → TakesEntry old (heading h) new → HasRead bytes (table h []) new
-read_heading bytes old h new is taken =
-    let here = subst (λ r. TakesEntry r (heading h) new) is taken in
-    record {
-      phase = opens_rows here.step;
-      split = here.split ∙ ap (λ xs. xs ++ new.left) (sym (append-nil (entry_bytes (heading h))));
-      lawful = record { few = omega arith; on = All-nil (λ r. is_on_frame h.frame r ≡ true) };
-    }
 
 -- where a row leads, and which can come
 leads_on : {h : Heading} {n : ℕ} {r : Row} {q : Phase} → Step (Rows h n) (row r) q → (n < most_rows) × (is_on_frame h.frame r ≡ true) × (q ≡ Rows h (n + 1))

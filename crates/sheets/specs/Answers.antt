@@ -35,9 +35,13 @@ answer_bytes (refuses number at) = letter_X ∷ number ∷ four at
 abbrev pub most_answer : ℕ
 most_answer = leaf_length most_rows
 
+-- no sheet is longer than that of a full table
+abbrev pub most_sheet : ℕ
+most_sheet = row_place most_rows
+
 -- so many bytes decide: those of the sheet of a full table, and one more
 abbrev pub deciding : ℕ
-deciding = row_place most_rows + 1
+deciding = most_sheet + 1
 
 -- what answers the first bytes answers all of them
 abbrev pub FirstDecide : Type 0

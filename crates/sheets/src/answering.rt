@@ -1,9 +1,9 @@
 // The answer to a sheet, in bytes.
-ghost use Rattle.std.specs.Prelude.{◌≤◌, length, IsOk};
+ghost use Rattle.std.specs.Prelude.{◌≡◌, ◌≤◌, length, IsOk};
 ghost use Rattle.rows.specs.Answers.{Answer, gives, refuses};
 ghost use Rattle.rows.specs.Refusals.{number};
 ghost use Rattle.leaves.specs.Contents.{Contents};
-ghost use Rattle.sheets.specs.Answers.{Answers, AnswersOnce, most_answer, FirstDecide, IsPut, IsLeafOf};
+ghost use Rattle.sheets.specs.Answers.{Answers, AnswersOnce, deciding, most_answer, most_sheet, FirstDecide, IsPut, IsLeafOf};
 ghost use Rattle.sheets.specs.Surveying.{IsSurveyOf};
 
 use crate::reading_sheets::read;
@@ -39,6 +39,7 @@ pub fn answer_sheet(bytes: &[u8], buffer: &mut [u8]) -> Result<usize, Fault>
     ensures leaf { (c : Contents) → Answers bytes.now (gives c) → IsLeafOf bytes.now c }
     ensures once { AnswersOnce }
     ensures decide { FirstDecide }
+    ensures sizes { (MOST_SHEET ≡ most_sheet) × (DECIDING ≡ deciding) × (MOST_ANSWER ≡ most_answer) }
 {
     match read(bytes) {
         Ok(sheet) => file_survey(&sheet, buffer),

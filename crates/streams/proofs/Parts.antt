@@ -22,12 +22,12 @@ pub Consumes-more : (a b c : Option (List ℕ)) (xs ys : List ℕ) (at k n : ℕ
 Consumes-more a b c xs ys at k n inside fits before now =
     subst (Consumes a c) (sym (take-read xs ys at k n inside fits)) (Consumes-trans a b c (take at xs) (take n ys) before now)
 
--- what a reader gave before a read that failed is shorter than the buffer
-pub lost_before : (a b c : Option (List ℕ)) (xs : List ℕ) (at size : ℕ) → at ≤ length xs → at < size
-    → Consumes a b (take at xs) → Keeps b c → (lost : List ℕ) × (length lost < size) × Consumes a c lost
-lost_before a b c xs at size inside short before kept =
-    let len : length (take at xs) ≡ at = length-take-le at xs inside in
-    (take at xs, omega arith, Consumes-kept a b c (take at xs) before kept)
+-- what a reader gave before a read that failed stands in front in the buffer, which has more places
+pub lost_before : (a b c : Option (List ℕ)) (xs ys : List ℕ) (at k size : ℕ) → at ≤ length xs → at < size
+    → Consumes a b (take at xs) → Keeps b c → (n : ℕ) × (n < size) × Consumes a c (take n (put_mid at k xs ys))
+lost_before a b c xs ys at k size inside short before kept =
+    let front : take at (put_mid at k xs ys) ≡ take at xs = take_at (take at xs) (ys ++ post_of at k xs) at (length-take-le at xs inside) in
+    (at, short, subst (Consumes a c) (sym front) (Consumes-kept a b c (take at xs) before kept))
 
 -- a writer has got what it got before and what it gets now, which is a beginning of what was left
 pub Appends-more : (a b c : Option (List ℕ)) (xs : List ℕ) (at n : ℕ)

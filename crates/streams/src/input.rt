@@ -1,5 +1,5 @@
 // Bytes read from a reader.
-ghost use Rattle.std.specs.Prelude.{◌≢◌, ℕ, ◌<◌, ◌≤◌, List, length, take, IfOk, IfErr, OnErr};
+ghost use Rattle.std.specs.Prelude.{◌≢◌, ℕ, ◌<◌, ◌≤◌, length, take, IfOk, IfErr, OnErr};
 ghost use Rattle.std.specs.IoError.{error_kind};
 ghost use Rattle.std.specs.Io.{ReadsAtMost};
 ghost use Rattle.std.specs.Io.KnownBytes.{Consumes, IsAtEnd, ReadConsumes};
@@ -10,15 +10,15 @@ use std::io::{ErrorKind, Read};
 /// Fills a buffer from a reader, read by read, up to the end of the buffer or of the input. Answers
 /// how many bytes were read, which then stand in front in the buffer.
 ///
-/// An interrupted read is made again; any other error is passed on, and the bytes read before it
-/// are lost.
+/// An interrupted read is made again; any other error is passed on. The bytes read before it then
+/// stand in front in the buffer, fewer than it has places, and how many is not told.
 pub fn fill<R: Read>(reader: &mut R, buffer: &mut [u8]) -> io::Result<usize>
     ensures within { IfOk result (λ n. n ≤ length buffer.new) }
     ensures read { IfOk result (λ n.
         Consumes (R.remaining reader.old) (R.remaining reader.new) (take n buffer.new)) }
     ensures end { IfOk result (λ n. n < length buffer.new → IsAtEnd (R.remaining reader.new)) }
-    ensures lost { OnErr result ((lost : List ℕ) × (length lost < length buffer.old)
-        × Consumes (R.remaining reader.old) (R.remaining reader.new) lost) }
+    ensures lost { OnErr result ((n : ℕ) × (n < length buffer.old)
+        × Consumes (R.remaining reader.old) (R.remaining reader.new) (take n buffer.new)) }
     ensures retried { IfErr result (λ e. error_kind e ≢ ErrorKind.Interrupted) }
 {
     let mut count = 0;

@@ -4,7 +4,7 @@ use Rattle.std.proofs.Common.{◌≡◌, ℕ, ◌<◌, ◌≤◌, List, [], ◌+
 use Rattle.std.proofs.lemmas.Bool.{cases_lt}
 use Rattle.std.proofs.lemmas.List.{append-nil, take_all, take_at, length-take-le}
 use Rattle.std.specs.Io.KnownBytes.{Consumes, IsAtEnd}
-use Rattle.survey.specs.Answering.{MayHold}
+use Rattle.streams.specs.Held.{MayHold}
 
 -- bytes that are no longer are the first of themselves
 first_of_itself : (size : ℕ) (front : List ℕ) → length front ≤ size → front ≡ take size front

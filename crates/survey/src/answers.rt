@@ -1,5 +1,5 @@
 // The answer to what a reader holds.
-ghost use Rattle.std.specs.Prelude.{◌≡◌, ℕ, ◌≤◌, List, length, take, IfSome, IfOk, OnOk};
+ghost use Rattle.std.specs.Prelude.{◌≡◌, ℕ, ◌<◌, ◌≤◌, List, length, take, IfSome, IfOk, OnOk, OnErr};
 ghost use Rattle.std.specs.Io.KnownBytes.{Consumes};
 ghost use Rattle.sheets.specs.Answers.{deciding};
 ghost use Rattle.survey.specs.Answering.{IsAnswerTo, IsAnswerToHeld};
@@ -20,6 +20,8 @@ pub(crate) fn read_answer<R: Read>(
         IsAnswerToHeld (R.remaining reader.old) (take n buffer.new)) }
     ensures read { OnOk result (IfSome (R.remaining reader.old) (λ bytes.
         Consumes (R.remaining reader.old) (R.remaining reader.new) (take deciding bytes))) }
+    ensures lost { OnErr result ((lost : List ℕ) × (length lost < deciding)
+        × Consumes (R.remaining reader.old) (R.remaining reader.new) lost) }
     ensures most { (taken : List ℕ) × (length taken ≤ deciding)
         × Consumes (R.remaining reader.old) (R.remaining reader.new) taken }
 {

@@ -1,9 +1,9 @@
 // What a reader holds, answered into a writer.
-ghost use Rattle.std.specs.Prelude.{ℕ, ◌≤◌, List, length, take, IfSome, OnOk, IfErr};
+ghost use Rattle.std.specs.Prelude.{ℕ, ◌≤◌, List, length, OnOk, IfErr};
 ghost use Rattle.std.specs.Io.KnownBytes.{Appends, Consumes};
 ghost use Rattle.sheets.specs.Answers.{deciding};
 ghost use Rattle.survey.specs.Answering.{IsAnswerToHeld};
-ghost use Rattle.survey.specs.Surveyed.{HasGot};
+ghost use Rattle.survey.specs.Surveyed.{HasGot, HasRead};
 
 use crate::answers::read_answer;
 use sheets::MOST_ANSWER;
@@ -40,8 +40,7 @@ pub(crate) fn run<R: Read, W: Write>(reader: &mut R, writer: &mut W) -> Result<(
         × Appends (W.contents writer.old) (W.contents writer.new) out) }
     ensures failed { IfErr result (λ f.
         HasGot f (R.remaining reader.old) (W.contents writer.old) (W.contents writer.new)) }
-    ensures read { OnOk result (IfSome (R.remaining reader.old) (λ bytes.
-        Consumes (R.remaining reader.old) (R.remaining reader.new) (take deciding bytes))) }
+    ensures read { HasRead result (R.remaining reader.old) (R.remaining reader.new) }
     ensures most { (taken : List ℕ) × (length taken ≤ deciding)
         × Consumes (R.remaining reader.old) (R.remaining reader.new) taken }
 {
