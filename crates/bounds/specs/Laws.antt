@@ -6,6 +6,7 @@ use Rattle.rows.specs.Counting.{steps}
 use Rattle.bounds.specs.Instants.{count}
 use Rattle.bounds.specs.Meaning.{Meaning, finest, is_asked}
 
+-- a meaning shows the laws: at every frame, of every row on it, at every instant up to the horizon
 pub record Laws (m : Meaning) : Type 0 where
   -- the amount is nowhere below the exact steps
   pub covers : (h : ℕ) (r : Row) (t : ℕ) → IsTrue (is_asked h r t) → h * steps r t ≤ m.amount h r t

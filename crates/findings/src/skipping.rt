@@ -1,6 +1,6 @@
 // Instants that are passed over: what is sure to be demanded from an instant on is not served before
 // there is time for it.
-ghost use Rattle.std.specs.Prelude.{◌≡◌, ◌<◌, ◌≤◌};
+ghost use Rattle.std.specs.Prelude.{◌≤◌};
 ghost use Rattle.rows.specs.Times.{horizon};
 ghost use Rattle.findings.specs.Floors.{IsUnder, GoesOn};
 ghost use Rattle.findings.specs.Loads.{load_of};

@@ -10,16 +10,19 @@ use Rattle.leaves.specs.declared.entries.Entry.TheVariants.{Heading as heading, 
 use Rattle.leaves.specs.Bytes.{four}
 use Rattle.leaves.specs.Headings.{heading_plain}
 
--- the kinds of entries: the letters F, R, A and Z
+-- the letter of a heading, F
 abbrev pub letter_F : ℕ
 letter_F = 70
 
+-- the letter of a row, R
 abbrev pub letter_R : ℕ
 letter_R = 82
 
+-- the letter of a finding, A
 abbrev pub letter_A : ℕ
 letter_A = 65
 
+-- the letter of the end, Z
 abbrev pub letter_Z : ℕ
 letter_Z = 90
 
@@ -42,16 +45,19 @@ entry_bytes (row r) = letter_R ∷ row_body (plain r)
 entry_bytes (finding f) = letter_A ∷ finding_body (tells f)
 entry_bytes (end n) = letter_Z ∷ four n
 
--- how long the bodies are; an entry has one byte more, its letter
+-- how long the body of a heading is; an entry has one byte more, its letter
 abbrev pub heading_size : ℕ
 heading_size = 6
 
+-- how long the body of a row is
 abbrev pub row_size : ℕ
 row_size = 16
 
+-- how long the body of a finding is
 abbrev pub finding_size : ℕ
 finding_size = 8
 
+-- how long the body of the end is
 abbrev pub end_size : ℕ
 end_size = 4
 

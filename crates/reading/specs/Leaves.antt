@@ -14,10 +14,11 @@ use Rattle.reading.specs.Held.{HoldContents, HoldSomeContents}
 abbrev pub heading_of : Leaf → Heading
 heading_of leaf = leaf.heading
 
--- the bytes of its rows, and those of its findings
+-- the bytes of its rows
 abbrev pub row_bytes : Leaf → List ℕ
 row_bytes leaf = leaf.rows.now
 
+-- the bytes of its findings
 abbrev pub finding_bytes : Leaf → List ℕ
 finding_bytes leaf = leaf.findings.now
 

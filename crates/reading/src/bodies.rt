@@ -2,7 +2,6 @@
 ghost use Rattle.std.specs.Prelude.{◌≡◌, ◌+◌, ◌^◌, ◌<◌, ◌≤◌, ◌∷◌, [], ◌++◌, List, length, drop, OnOk, IfSome};
 ghost use Rattle.std.specs.Option.{option_map};
 ghost use Rattle.rows.specs.Answers.{refusal, first_refusal};
-ghost use Rattle.rows.specs.Judging.{plain};
 ghost use Rattle.rows.specs.Lists.{at_rank};
 ghost use Rattle.rows.specs.Times.{horizon};
 ghost use Rattle.verdicts.specs.Found.{tells};

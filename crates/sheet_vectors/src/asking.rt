@@ -1,5 +1,5 @@
 // A sheet, answered into buffers of several lengths.
-ghost use Rattle.std.specs.Prelude.{◌≤◌, ◌-◌, ◌↔◌, length, IsNone, IfOk};
+ghost use Rattle.std.specs.Prelude.{◌≤◌, ◌↔◌, length, IsNone, IfOk};
 ghost use Rattle.sheet_vectors.specs.Answers.{IsAnswerTo, IsLongerThan};
 
 use crate::comparing::{is_put, is_short};

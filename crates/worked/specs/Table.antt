@@ -30,6 +30,7 @@ row_a = record {
   near = lit≤ tt;
 }
 
+-- task B
 abbrev pub row_b : Row
 row_b = record {
   work = 2;
@@ -42,6 +43,7 @@ row_b = record {
   near = lit≤ tt;
 }
 
+-- task E
 abbrev pub row_e : Row
 row_e = record {
   work = 3;
@@ -58,10 +60,11 @@ row_e = record {
 abbrev pub found : Meaning → Row → List Row → Found
 found m r above = row_finding m 12 r above
 
--- a first rest with the points tested, and a miss with the points tested
+-- a first rest with the points tested
 abbrev pub meets : ℕ → ℕ → Found
 meets rest points = record { rest = Some rest; points = points }
 
+-- a miss with the points tested
 abbrev pub misses : ℕ → Found
 misses points = record { rest = None; points = points }
 

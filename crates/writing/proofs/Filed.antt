@@ -1,6 +1,6 @@
 -- Rows and findings filed in turn: where the writer is after them.
 use Rattle.std.proofs.Common.{◌≡◌, ℕ, ◌+◌, ◌*◌, ◌<◌, ◌≤◌, List, [], ◌∷◌, map, length, get_or, take, sym, refl, ap, ◌∙◌, subst, arith}
-use Rattle.std.proofs.lemmas.List.{length-take-le, map_push, take_all, take_more}
+use Rattle.std.proofs.lemmas.List.{length-take-le, map_push, take_more}
 use Rattle.rows.specs.declared.tasks.Row.{Row}
 use Rattle.verdicts.specs.declared.verdicts.Finding.{Finding}
 use Rattle.leaves.specs.declared.entries.Entry.{Entry}
@@ -66,10 +66,6 @@ pub one_more_filed : {X : Type 0} (entry : X → Entry) (xs : List X) (i : ℕ) 
     → FilesAll p old (map entry (take i xs)) q between → Files q between (entry (get_or xs i d)) s new → FilesAll p old (map entry (take (i + 1) xs)) s new
 one_more_filed entry xs i d {p = p} {s = s} {old = old} {new = new} within all one =
     subst (λ es. FilesAll p old es s new) (sym (ap (map entry) (take_more xs i d within) ∙ map_push entry (take i xs) (get_or xs i d))) (file_push all one)
-
--- and in the end all of them
-pub all_filed : {X : Type 0} (entry : X → Entry) (xs : List X) (i : ℕ) {p q : Phase} {old new : List ℕ} → length xs ≤ i → FilesAll p old (map entry (take i xs)) q new → FilesAll p old (map entry xs) q new
-all_filed entry xs i {p = p} {q = q} {old = old} {new = new} done all = subst (λ ys. FilesAll p old (map entry ys) q new) (take_all i xs done) all
 
 -- before an element of a list is filed, as many are filed as stand before it
 module _ (i : ℕ) {p q : Phase} {old new : List ℕ} where

@@ -161,10 +161,7 @@ impl FindingsLeaf {
 fn rest_or_zero(finding: &Finding) -> u32
     ensures { result ≡ unwrap_or (verdict_rest finding.now.verdict) 0 }
 {
-    match finding.verdict {
-        Verdict::Meets(rest) => rest,
-        Verdict::Misses => 0,
-    }
+    finding.verdict.rest().unwrap_or(0)
 }
 
 // The points of a finding. As the result of a call they are known to fit four bytes.

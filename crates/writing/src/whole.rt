@@ -1,5 +1,5 @@
 // A whole leaf filed by one call.
-ghost use Rattle.std.specs.Prelude.{ℕ, IsTrue, ◌≡◌, ◌+◌, ◌*◌, ◌≤◌, false, not, map, length, position, take, List, IsOk, IfOk, OnOk, OnErr};
+ghost use Rattle.std.specs.Prelude.{ℕ, ◌≡◌, ◌+◌, ◌*◌, ◌≤◌, false, not, map, length, position, take, List, IsOk, IfOk, OnOk, OnErr};
 ghost use Rattle.std.specs.List.{All, AllPass};
 ghost use Rattle.rows.specs.Answers.{answer, refusal, checked, first_refusal, gives};
 ghost use Rattle.rows.specs.Counting.{is_on_frame};
