@@ -1,6 +1,7 @@
 // How many answers agree.
-ghost use Rattle.std.specs.Prelude.{◌≡◌, ◌==◌};
+ghost use Rattle.std.specs.Prelude.{◌≡◌, ◌==◌, Some};
 ghost use Rattle.tallies.specs.Counts.{counted};
+ghost use Rattle.tallies.specs.Texts.{count_text};
 
 use std::fmt;
 
@@ -38,6 +39,8 @@ impl Count {
 
 // The count as a person reads it: "3 of 4 agree".
 impl fmt::Display for Count {
+    ghost output = { λ c. Some (count_text c) };
+
     fn fmt<W: fmt::Write>(&self, f: &mut fmt::Formatter<W>) -> fmt::Result {
         let agree = self.agree;
         let vectors = self.vectors;

@@ -1,5 +1,9 @@
 // What the lines of vectors tell in words and numbers.
-use anyhow::{Context, bail};
+ghost use Rattle.std.specs.Prelude.{◌≡◌, Contains, IfOk};
+ghost use Rattle.std.specs.List.{flat_map};
+ghost use Rattle.tallies.specs.Texts.{row_numbers, TellsFault};
+
+use anyhow::{Context, ensure};
 use rows::{Fault, Numbers, Refusal};
 use std::alloc::Global;
 
@@ -13,25 +17,30 @@ pub fn numbers(alloc: Global, text: &str) -> anyhow::Result<Vec<u32>> {
 }
 
 /// Rows that nobody has judged, four numbers to each.
-pub fn row_list(alloc: Global, numbers: &[u32]) -> anyhow::Result<Vec<Numbers>> {
+pub fn row_list(alloc: Global, numbers: &[u32]) -> anyhow::Result<Vec<Numbers>>
+    ensures { IfOk result (λ rows. flat_map row_numbers rows.items ≡ numbers.now) }
+{
     let mut rows = Vec::new(alloc);
-    for row in numbers.chunks(4) {
-        let [work, deadline, period, jitter] = row else {
-            bail!("a row has four numbers");
-        };
+    let mut left = numbers;
+    while let [work, deadline, period, jitter, rest @ ..] = left {
         rows.push(Numbers {
             work: *work,
             deadline: *deadline,
             period: *period,
             jitter: *jitter,
         })?;
+        left = rest;
     }
+    ensure!(left.is_empty(), "a row has four numbers");
     Ok(rows)
 }
 
 /// The refusal, among those that are known, and the place that follow the word `refused`: a number,
 /// `at` and a place.
-pub fn refused(text: &str, known: &[Refusal]) -> anyhow::Result<Fault> {
+pub fn refused(text: &str, known: &[Refusal]) -> anyhow::Result<Fault>
+    ensures known { IfOk result (λ fault. Contains known.now fault.refusal) }
+    ensures told { IfOk result (TellsFault text.now) }
+{
     let (number, at) = text.split_once(" at ").context("no place")?;
     let number = number
         .parse::<u8>()
