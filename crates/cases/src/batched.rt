@@ -1,45 +1,43 @@
 // The worked table surveyed by a bound from outside, and why such a bound is not made.
-use crate::building::{meets, misses, numbers, row};
+use crate::agreeing::agree;
+use crate::building::{meets, misses, row};
+use crate::surveyed::{TABLE, surveyed};
 use batches::{BatchError, Batches};
 use bounds::Bound;
 use rows::{HORIZON, Refusal};
-use std::test::Fail;
-use tables::survey;
+use std::process::Abort;
 
-// What is counted in batches of 2 from two jobs on: at 10 the three jobs of A count as four.
+// Batches of 2 from two jobs on.
+fn pairs(rt: &impl Abort) -> Batches {
+    Batches::new(1, 2).expect(rt, "batches of 2 are refused")
+}
+
+// At 10 the three jobs of A count as four.
 #[test]
-fn the_worked_table_by_batches(rt: HostRuntime) -> Result<(), Fail> {
-    let table = [
-        numbers(1, 4, 4, 0),
-        numbers(2, 6, 6, 1),
-        numbers(3, 12, 12, 0),
-    ];
-    let mut list = [misses(7); 4];
-    assert_eq!(rt; survey(&Batches::new(1, 2)?, 12, &table, &mut list)?, 3);
-    assert_eq!(rt; list, [meets(1, 1), meets(3, 1), meets(11, 4), misses(7)]);
-    Ok(())
+fn the_worked_table_by_batches(rt: HostRuntime) {
+    let found = [meets(1, 1), meets(3, 1), meets(11, 4), misses(7)];
+    agree(&rt, surveyed(&pairs(&rt), 12, &TABLE), (Ok(3), found));
 }
 
 #[test]
-fn amounts_in_batches(rt: HostRuntime) -> Result<(), Fail> {
-    let a = row(1, 4, 4, 0)?;
-    let pairs = Batches::new(1, 2)?;
-    for (at, amount) in [(4, 12), (5, 24), (9, 48), (13, 48)] {
-        assert_eq!(rt; pairs.amount(12, &a, at), amount);
-    }
-    assert_eq!(rt; (pairs.accuracy(), pairs.most()), (1, HORIZON));
-    assert_eq!(rt; pairs.next_corner(12, &a, 4), Some(8));
-    Ok(())
+fn amounts_in_batches(rt: HostRuntime) {
+    let a = row(1, 4, 4, 0);
+    let pairs = pairs(&rt);
+    let early = [pairs.amount(12, &a, 4), pairs.amount(12, &a, 5)];
+    let late = [pairs.amount(12, &a, 9), pairs.amount(12, &a, 13)];
+    agree(&rt, [early, late], [[12, 24], [48, 48]]);
+    let corner = pairs.next_corner(12, &a, 4);
+    let answers = (pairs.accuracy(), pairs.most(), corner);
+    agree(&rt, answers, (1, HORIZON, Some(8)));
 }
 
 // The corners of A are 4, 8 and so on, whatever the batches.
 #[test]
-fn flags_in_batches(rt: HostRuntime) -> Result<(), Fail> {
-    let a = row(1, 4, 4, 0)?;
+fn flags_in_batches(rt: HostRuntime) {
     let mut flags = [false; 5];
-    assert_eq!(rt; Batches::new(1, 2)?.mark(&a, 3, &mut flags), Some(12));
-    assert_eq!(rt; flags, [true, false, false, false, true]);
-    Ok(())
+    let past = pairs(&rt).mark(&row(1, 4, 4, 0), 3, &mut flags);
+    let marked = [true, false, false, false, true];
+    agree(&rt, (flags, past), (marked, Some(12)));
 }
 
 // The accuracy of the bound that is made with k and a batch size.
@@ -49,14 +47,12 @@ fn made(k: u32, size: u32) -> Result<u32, BatchError> {
 
 // An accuracy is refused before a size.
 #[test]
-fn accuracies_and_sizes(rt: HostRuntime) -> Result<(), Fail> {
-    assert_eq!(rt; (made(1, 1)?, made(64, HORIZON)?), (1, 64));
+fn accuracies_and_sizes(rt: HostRuntime) {
+    agree(&rt, [made(1, 1), made(64, HORIZON)], [Ok(1), Ok(64)]);
     let bad = BatchError::Refused(Refusal::BadAccuracy.at(0));
-    for (k, size) in [(0, 1), (65, 1), (0, 0)] {
-        assert_eq!(rt; made(k, size), Err(bad));
-    }
-    for size in [0, HORIZON + 1] {
-        assert_eq!(rt; made(1, size), Err(BatchError::BadSize(size)));
-    }
-    Ok(())
+    let inaccurate = [made(0, 1), made(65, 1), made(0, 0)];
+    agree(&rt, inaccurate, [Err(bad); 3]);
+    let sizes = [made(1, 0), made(1, HORIZON + 1)];
+    let (none, many) = (BatchError::BadSize(0), BatchError::BadSize(HORIZON + 1));
+    agree(&rt, sizes, [Err(none), Err(many)]);
 }

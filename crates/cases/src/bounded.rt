@@ -2,102 +2,105 @@
 ghost use Rattle.bounds.specs.Supplied.{exact_steps};
 ghost use Rattle.bounds.specs.Lemmas.ExactLaws.{exact_laws};
 
+use crate::agreeing::agree;
 use crate::building::row;
 use bounds::{Bound, ExactSteps, LinearTail, Supplied, asked};
 use rows::{Fault, HORIZON, Refusal, Row};
-use std::test::Fail;
+use std::process::Abort;
 
-// The accuracy of the linear tail that is made with k.
-fn tail_accuracy(k: u32) -> Result<u32, Fault> {
-    Ok(LinearTail::new(k)?.accuracy())
+// The accuracy of the linear tail that is made with k, and how many rises it has at most.
+fn made(k: u32) -> Result<(u32, u32), Fault> {
+    let tail = LinearTail::new(k)?;
+    Ok((tail.accuracy(), tail.most()))
 }
 
 #[test]
-fn accuracies_from_1_to_64(rt: HostRuntime) -> Result<(), Fail> {
-    for k in [0, 65, u32::MAX] {
-        assert_eq!(rt; tail_accuracy(k), Err(Refusal::BadAccuracy.at(0)));
+fn accuracies_from_1_to_64(rt: HostRuntime) {
+    let bad = Err(Refusal::BadAccuracy.at(0));
+    agree(&rt, [made(0), made(65), made(u32::MAX)], [bad; 3]);
+    agree(&rt, [made(1), made(64)], [Ok((1, 0)), Ok((64, 63))]);
+    let steps = (ExactSteps.accuracy(), ExactSteps.most());
+    agree(&rt, steps, (64, HORIZON));
+}
+
+// The linear tail of accuracy k, for a test that has no other k than from 1 to 64.
+pub(crate) fn tail(rt: &impl Abort, k: u32) -> LinearTail {
+    LinearTail::new(k).expect(rt, "an accuracy is refused")
+}
+
+// What B demands at 5 and at 6 on a frame of 12.
+fn amounts<B: Bound>(bound: &B) -> [u64; 2] {
+    let b = row(2, 6, 6, 1);
+    [bound.amount(12, &b, 5), bound.amount(12, &b, 6)]
+}
+
+#[test]
+fn amounts_before_and_on_the_tail(rt: HostRuntime) {
+    agree(&rt, amounts(&tail(&rt, 2)), [24, 52]);
+    agree(&rt, amounts(&ExactSteps), [24, 48]);
+}
+
+// The corner of B after an instant, on a frame of 12.
+fn corner<B: Bound>(bound: &B, after: u32) -> Option<u32> {
+    bound.next_corner(12, &row(2, 6, 6, 1), after)
+}
+
+#[test]
+fn corners_in_turn(rt: HostRuntime) {
+    let tail_3 = tail(&rt, 3);
+    let corners = [
+        corner(&tail_3, 0),
+        corner(&tail_3, 4),
+        corner(&tail_3, 5),
+        corner(&tail_3, 11),
+        corner(&tail(&rt, 1), 0),
+        corner(&ExactSteps, 11),
+        corner(&ExactSteps, HORIZON - 1),
+    ];
+    let wanted = [Some(5), Some(5), Some(11), None, None, Some(17), None];
+    agree(&rt, corners, wanted);
+}
+
+// A frame and an instant each, where there is nothing to answer.
+static NOT_ASKED: [(u32, u32); 5] = [
+    (0, 5),
+    (13, 5),
+    (12, u32::MAX),
+    (u32::MAX, 5),
+    (HORIZON + 1, 5),
+];
+
+#[test]
+fn nothing_to_answer(rt: HostRuntime) {
+    let b = row(2, 6, 6, 1);
+    let far = [asked(12, &b, HORIZON), asked(12, &b, HORIZON + 1)];
+    agree(&rt, far, [true, false]);
+    for &(frame, at) in &NOT_ASKED {
+        let amount = ExactSteps.amount(frame, &b, at);
+        let corner = ExactSteps.next_corner(frame, &b, at);
+        agree(&rt, (amount, corner), (0, None));
     }
-    assert_eq!(rt; (tail_accuracy(1)?, tail_accuracy(64)?), (1, 64));
-    assert_eq!(rt;
-        (LinearTail::new(1)?.most(), LinearTail::new(64)?.most()),
-        (0, 63)
-    );
-    assert_eq!(rt; (ExactSteps.accuracy(), ExactSteps.most()), (64, HORIZON));
-    Ok(())
 }
 
-#[test]
-fn amounts_before_and_on_the_tail(rt: HostRuntime) -> Result<(), Fail> {
-    let b = row(2, 6, 6, 1)?;
-    let tail = LinearTail::new(2)?;
-    assert_eq!(rt; (tail.amount(12, &b, 5), tail.amount(12, &b, 6)), (24, 52));
-    assert_eq!(rt;
-        (ExactSteps.amount(12, &b, 5), ExactSteps.amount(12, &b, 6)),
-        (24, 48)
-    );
-    Ok(())
-}
-
-#[test]
-fn corners_in_turn(rt: HostRuntime) -> Result<(), Fail> {
-    let b = row(2, 6, 6, 1)?;
-    let tail = LinearTail::new(3)?;
-    for (after, corner) in [(0, Some(5)), (4, Some(5)), (5, Some(11)), (11, None)] {
-        assert_eq!(rt; tail.next_corner(12, &b, after), corner);
-    }
-    assert_eq!(rt; LinearTail::new(1)?.next_corner(12, &b, 0), None);
-    assert_eq!(rt;
-        (
-            ExactSteps.next_corner(12, &b, 11),
-            ExactSteps.next_corner(12, &b, HORIZON - 1),
-        ),
-        (Some(17), None)
-    );
-    Ok(())
-}
-
-#[test]
-fn nothing_to_answer(rt: HostRuntime) -> Result<(), Fail> {
-    let b = row(2, 6, 6, 1)?;
-    assert_eq!(rt;
-        (asked(12, &b, HORIZON), asked(12, &b, HORIZON + 1)),
-        (true, false)
-    );
-    for (frame, at) in [
-        (0, 5),
-        (13, 5),
-        (12, u32::MAX),
-        (u32::MAX, 5),
-        (HORIZON + 1, 5),
-    ] {
-        assert_eq!(rt; ExactSteps.amount(frame, &b, at), 0);
-        assert_eq!(rt; ExactSteps.next_corner(frame, &b, at), None);
-    }
-    Ok(())
-}
-
-// All that a bound answers about a row at 6 on a frame of 12, after it, and about itself.
-fn answers<B: Bound>(bound: &B, row: &Row) -> (u64, Option<u32>, u32, u32) {
-    let amount = bound.amount(12, row, 6);
-    let corner = bound.next_corner(12, row, 6);
+// All that a bound answers about B at 6 on a frame of 12, after it, and about itself.
+fn answers<B: Bound>(bound: &B) -> (u64, Option<u32>, u32, u32) {
+    let b = row(2, 6, 6, 1);
+    let amount = bound.amount(12, &b, 6);
+    let corner = bound.next_corner(12, &b, 6);
     (amount, corner, bound.accuracy(), bound.most())
 }
 
 #[test]
-fn supplied_bounds_answer_as_those_they_name(rt: HostRuntime) -> Result<(), Fail> {
-    let b = row(2, 6, 6, 1)?;
-    let steps = (48, Some(11), 64, HORIZON);
-    assert_eq!(rt; answers(&ExactSteps, &b), steps);
-    assert_eq!(rt; answers(&Supplied::ExactSteps, &b), steps);
-    let tail = LinearTail::new(2)?;
-    let line = (52, None, 2, 1);
-    assert_eq!(rt; answers(&tail, &b), line);
-    assert_eq!(rt; answers(&Supplied::LinearTail(tail), &b), line);
-    Ok(())
+fn supplied_bounds_answer_as_those_they_name(rt: HostRuntime) {
+    let steps = [answers(&ExactSteps), answers(&Supplied::ExactSteps)];
+    agree(&rt, steps, [(48, Some(11), 64, HORIZON); 2]);
+    let tail = tail(&rt, 2);
+    let line = [answers(&tail), answers(&Supplied::LinearTail(tail))];
+    agree(&rt, line, [(52, None, 2, 1); 2]);
 }
 
 // Exact steps that leave their flags to the method that the trait provides.
-#[derive(Clone, Copy, Debug)]
+#[derive(Clone, Copy)]
 struct CornerByCorner;
 
 impl Bound for CornerByCorner {
@@ -122,25 +125,22 @@ impl Bound for CornerByCorner {
     }
 }
 
-// What a row is sure to demand on a frame of 12 from 11, from 12 and from past the horizon on.
-fn floors<B: Bound>(bound: &B, row: &Row) -> (u64, u64, u64) {
-    let before = bound.floor(12, row, 11);
-    let after = bound.floor(12, row, 12);
-    (before, after, bound.floor(12, row, HORIZON + 1))
+// What B is sure to demand on a frame of 12 from 11, from 12 and from past the horizon on.
+fn floors<B: Bound>(bound: &B) -> (u64, u64, u64) {
+    let b = row(2, 6, 6, 1);
+    let before = bound.floor(12, &b, 11);
+    let after = bound.floor(12, &b, 12);
+    (before, after, bound.floor(12, &b, HORIZON + 1))
 }
 
 // B has two jobs up to 11 and three up to 12; the tail of accuracy 3 begins just past 11.
 #[test]
-fn floors_before_and_on_the_tail(rt: HostRuntime) -> Result<(), Fail> {
-    let b = row(2, 6, 6, 1)?;
-    let steps = (48, 72, 0);
-    assert_eq!(rt; floors(&ExactSteps, &b), steps);
-    assert_eq!(rt; floors(&Supplied::ExactSteps, &b), steps);
-    let tail = LinearTail::new(3)?;
-    let line = (48, 76, 0);
-    assert_eq!(rt; floors(&tail, &b), line);
-    assert_eq!(rt; floors(&Supplied::LinearTail(tail), &b), line);
-    Ok(())
+fn floors_before_and_on_the_tail(rt: HostRuntime) {
+    let steps = [floors(&ExactSteps), floors(&Supplied::ExactSteps)];
+    agree(&rt, steps, [(48, 72, 0); 2]);
+    let tail = tail(&rt, 3);
+    let line = [floors(&tail), floors(&Supplied::LinearTail(tail))];
+    agree(&rt, line, [(48, 76, 0); 2]);
 }
 
 // Eight flags for the instants just after one, of which the flag at 2 was set before, as a bound
@@ -152,33 +152,36 @@ fn flags<B: Bound>(bound: &B, row: &Row, after: u32) -> ([bool; 8], Option<u32>)
     (flags, past)
 }
 
+// Flags that are left as they were.
+const NEITHER: [bool; 8] = [false, false, true, false, false, false, false, false];
+
 // The steps of B rise at 5, 11 and 17; before the tail of accuracy 3 are the first two.
 #[test]
-fn flags_of_corners(rt: HostRuntime) -> Result<(), Fail> {
-    let b = row(2, 6, 6, 1)?;
+fn flags_of_corners(rt: HostRuntime) {
+    let b = row(2, 6, 6, 1);
     let both = [true, false, true, false, false, false, true, false];
-    assert_eq!(rt; flags(&ExactSteps, &b, 4), (both, Some(17)));
-    assert_eq!(rt; flags(&CornerByCorner, &b, 4), (both, Some(17)));
-    let tail = LinearTail::new(3)?;
-    assert_eq!(rt; flags(&tail, &b, 4), (both, None));
-    assert_eq!(rt; flags(&Supplied::LinearTail(tail), &b, 4), (both, None));
-    assert_eq!(rt; tail.mark(&b, 4, &mut [false; 3]), Some(11));
-    let neither = [false, false, true, false, false, false, false, false];
-    assert_eq!(rt; flags(&LinearTail::new(1)?, &b, 4), (neither, None));
-    Ok(())
+    let steps = [flags(&ExactSteps, &b, 4), flags(&CornerByCorner, &b, 4)];
+    agree(&rt, steps, [(both, Some(17)); 2]);
+    let tail_3 = tail(&rt, 3);
+    let line = [
+        flags(&tail_3, &b, 4),
+        flags(&Supplied::LinearTail(tail_3), &b, 4),
+        flags(&tail(&rt, 1), &b, 4),
+    ];
+    agree(&rt, line, [(both, None), (both, None), (NEITHER, None)]);
+    agree(&rt, tail_3.mark(&b, 4, &mut [false; 3]), Some(11));
 }
 
 // The last corner of A stands on the horizon itself.
 #[test]
-fn flags_past_the_horizon(rt: HostRuntime) -> Result<(), Fail> {
-    let a = row(1, 4, 4, 0)?;
+fn flags_past_the_horizon(rt: HostRuntime) {
+    let a = row(1, 4, 4, 0);
     let last = [false, false, true, true, false, false, false, false];
-    assert_eq!(rt; flags(&ExactSteps, &a, HORIZON - 4), (last, None));
-    assert_eq!(rt; flags(&CornerByCorner, &a, HORIZON - 4), (last, None));
-    let neither = [false, false, true, false, false, false, false, false];
-    for after in [HORIZON, u32::MAX] {
-        assert_eq!(rt; flags(&ExactSteps, &a, after), (neither, None));
-        assert_eq!(rt; flags(&CornerByCorner, &a, after), (neither, None));
+    for (after, wanted) in [(HORIZON - 4, last), (HORIZON, NEITHER), (u32::MAX, NEITHER)] {
+        let marked = [
+            flags(&ExactSteps, &a, after),
+            flags(&CornerByCorner, &a, after),
+        ];
+        agree(&rt, marked, [(wanted, None); 2]);
     }
-    Ok(())
 }

@@ -1,6 +1,9 @@
 // Short ways to write down rows, findings and headings.
+ghost use Rattle.std.specs.Prelude.{◌+◌, ◌≤◌};
+ghost use Rattle.rows.specs.Times.{horizon};
+
 use leaves::HeadingNumbers;
-use rows::{Fault, Numbers, Row};
+use rows::{Numbers, Row};
 use verdicts::{Finding, Verdict};
 
 // Four plain numbers: work, deadline, period and jitter.
@@ -13,9 +16,19 @@ pub(crate) fn numbers(work: u32, deadline: u32, period: u32, jitter: u32) -> Num
     }
 }
 
-// The row of four numbers.
-pub(crate) fn row(work: u32, deadline: u32, period: u32, jitter: u32) -> Result<Row, Fault> {
-    numbers(work, deadline, period, jitter).judge(0)
+// The row of four numbers that are one: written down as it is, with nothing to judge.
+pub(crate) fn row(work: u32, deadline: u32, period: u32, jitter: u32) -> Row
+    requires busy { 1 ≤ work }
+    requires roomy { work + jitter ≤ deadline }
+    requires timely { deadline ≤ period }
+    requires near { period ≤ horizon }
+{
+    Row {
+        work,
+        deadline,
+        period,
+        jitter,
+    }
 }
 
 // A finding of a first rest.

@@ -1,9 +1,9 @@
 // Which four numbers are a row, and why others are not.
 ghost use Rattle.std.specs.Prelude.{◌≡◌, ◌↔◌, IsTrue};
 
+use crate::agreeing::agree;
 use crate::building::{numbers, row};
 use rows::{Fault, HORIZON, Numbers, Refusal, is_frame};
-use std::test::Fail;
 
 // The numbers of the row that four numbers make, judged for position 7.
 fn judged(four: Numbers) -> Result<Numbers, Fault> {
@@ -11,28 +11,35 @@ fn judged(four: Numbers) -> Result<Numbers, Fault> {
 }
 
 #[test]
-fn a_row_keeps_its_numbers(rt: HostRuntime) -> Result<(), Fail> {
-    let longest = numbers(1, HORIZON, HORIZON, HORIZON - 1);
-    for four in [numbers(4, 6, 6, 2), longest] {
-        assert_eq!(rt; judged(four)?, four);
+fn a_row_keeps_its_numbers(rt: HostRuntime) {
+    for four in [
+        numbers(4, 6, 6, 2),
+        numbers(1, HORIZON, HORIZON, HORIZON - 1),
+    ] {
+        agree(&rt, judged(four), Ok(four));
     }
-    Ok(())
 }
 
-// The last three have more than one flaw: the first that is checked is told.
+// Four numbers each, and why they are no row. Where they have more than one flaw, the first that is
+// checked is told. The last three are at the top of their type.
+static REFUSED: [(u32, u32, u32, u32, Refusal); 10] = [
+    (0, 6, 6, 2, Refusal::IdleRow),
+    (5, 6, 6, 2, Refusal::NoWindow),
+    (1, 7, 6, 0, Refusal::LateDeadline),
+    (1, 1, HORIZON + 1, 0, Refusal::LongPeriod),
+    (0, 0, 0, 9, Refusal::IdleRow),
+    (9, 8, 7, 0, Refusal::NoWindow),
+    (1, u32::MAX, HORIZON + 1, 0, Refusal::LateDeadline),
+    (u32::MAX, u32::MAX, u32::MAX, u32::MAX, Refusal::NoWindow),
+    (2, u32::MAX, u32::MAX, u32::MAX - 1, Refusal::NoWindow),
+    (1, u32::MAX, u32::MAX, u32::MAX - 1, Refusal::LongPeriod),
+];
+
 #[test]
 fn refusals_of_numbers(rt: HostRuntime) {
-    let cases = [
-        (numbers(0, 6, 6, 2), Refusal::IdleRow),
-        (numbers(5, 6, 6, 2), Refusal::NoWindow),
-        (numbers(1, 7, 6, 0), Refusal::LateDeadline),
-        (numbers(1, 1, HORIZON + 1, 0), Refusal::LongPeriod),
-        (numbers(0, 0, 0, 9), Refusal::IdleRow),
-        (numbers(9, 8, 7, 0), Refusal::NoWindow),
-        (numbers(1, u32::MAX, HORIZON + 1, 0), Refusal::LateDeadline),
-    ];
-    for (four, refusal) in cases {
-        assert_eq!(rt; judged(four), Err(refusal.at(7)));
+    for &(work, deadline, period, jitter, refusal) in &REFUSED {
+        let answer = judged(numbers(work, deadline, period, jitter));
+        agree(&rt, answer, Err(refusal.at(7)));
     }
 }
 
@@ -42,88 +49,76 @@ fn judged_on_12(four: Numbers) -> Result<Numbers, Fault> {
 }
 
 #[test]
-fn rows_on_a_frame(rt: HostRuntime) -> Result<(), Fail> {
-    assert_eq!(rt; judged_on_12(numbers(4, 6, 6, 2))?, numbers(4, 6, 6, 2));
-    let cases = [
-        (numbers(1, 5, 5, 0), Refusal::OffFrame),
-        (numbers(1, 24, 24, 0), Refusal::OffFrame),
-        (numbers(0, 0, 0, 0), Refusal::IdleRow),
-        (numbers(1, 1, HORIZON + 1, 0), Refusal::LongPeriod),
+fn rows_on_a_frame(rt: HostRuntime) {
+    let answers = [
+        judged_on_12(numbers(4, 6, 6, 2)),
+        judged_on_12(numbers(1, 5, 5, 0)),
+        judged_on_12(numbers(1, 24, 24, 0)),
+        judged_on_12(numbers(0, 0, 0, 0)),
+        judged_on_12(numbers(1, 1, HORIZON + 1, 0)),
     ];
-    for (four, refusal) in cases {
-        assert_eq!(rt; judged_on_12(four), Err(refusal.at(7)));
-    }
-    Ok(())
+    let wanted = [
+        Ok(numbers(4, 6, 6, 2)),
+        Err(Refusal::OffFrame.at(7)),
+        Err(Refusal::OffFrame.at(7)),
+        Err(Refusal::IdleRow.at(7)),
+        Err(Refusal::LongPeriod.at(7)),
+    ];
+    agree(&rt, answers, wanted);
 }
 
 #[test]
-fn numbers_at_the_top_of_their_type(rt: HostRuntime) -> Result<(), Fail> {
-    let cases = [
-        (u32::MAX, u32::MAX, Refusal::NoWindow),
-        (2, u32::MAX - 1, Refusal::NoWindow),
-        (1, u32::MAX - 1, Refusal::LongPeriod),
-    ];
-    for (work, jitter, refusal) in cases {
-        let four = numbers(work, u32::MAX, u32::MAX, jitter);
-        assert_eq!(rt; judged(four), Err(refusal.at(7)));
-    }
-    assert_eq!(rt; row(1, 1, 1, 0)?.steps(u32::MAX), 4_294_967_295);
-    assert_eq!(rt;
-        row(HORIZON, HORIZON, HORIZON, 0)?.steps(u32::MAX),
-        4_294_967_296
-    );
-    Ok(())
+fn numbers_at_the_top_of_their_type(rt: HostRuntime) {
+    let shortest = row(1, 1, 1, 0).steps(u32::MAX);
+    let longest = row(HORIZON, HORIZON, HORIZON, 0).steps(u32::MAX);
+    agree(&rt, [shortest, longest], [4_294_967_295, 4_294_967_296]);
+}
+
+// Whether four numbers are idle, have no window, a late deadline, and a long period.
+fn flaws(four: Numbers) -> [bool; 4] {
+    [
+        four.is_idle(),
+        four.has_no_window(),
+        four.has_late_deadline(),
+        four.has_long_period(),
+    ]
 }
 
 // Each flaw just where it begins, and just before.
+static FLAWS: [(u32, u32, u32, u32, [bool; 4]); 10] = [
+    (0, 6, 6, 2, [true, false, false, false]),
+    (1, 6, 6, 2, [false; 4]),
+    (5, 6, 6, 2, [false, true, false, false]),
+    (4, 6, 6, 2, [false; 4]),
+    (u32::MAX, u32::MAX, u32::MAX, 1, [false, true, false, true]),
+    (u32::MAX, u32::MAX, u32::MAX, 0, [false, false, false, true]),
+    (1, 7, 6, 0, [false, false, true, false]),
+    (1, 6, 6, 0, [false; 4]),
+    (1, 1, HORIZON + 1, 0, [false, false, false, true]),
+    (1, 1, HORIZON, 0, [false; 4]),
+];
+
 #[test]
 fn flaws_of_numbers(rt: HostRuntime) {
-    let idle = numbers(0, 6, 6, 2);
-    assert_eq!(rt;
-        (idle.is_idle(), numbers(1, 6, 6, 2).is_idle()),
-        (true, false)
-    );
-    let windowless = numbers(5, 6, 6, 2);
-    assert_eq!(rt;
-        (
-            windowless.has_no_window(),
-            numbers(4, 6, 6, 2).has_no_window()
-        ),
-        (true, false)
-    );
-    let overflowing = numbers(u32::MAX, u32::MAX, u32::MAX, 1);
-    let full = numbers(u32::MAX, u32::MAX, u32::MAX, 0);
-    assert_eq!(rt;
-        (overflowing.has_no_window(), full.has_no_window()),
-        (true, false)
-    );
-    let late = numbers(1, 7, 6, 0);
-    assert_eq!(rt;
-        (
-            late.has_late_deadline(),
-            numbers(1, 6, 6, 0).has_late_deadline()
-        ),
-        (true, false)
-    );
-    let long = numbers(1, 1, HORIZON + 1, 0);
-    assert_eq!(rt;
-        (
-            long.has_long_period(),
-            numbers(1, 1, HORIZON, 0).has_long_period()
-        ),
-        (true, false)
-    );
+    for &(work, deadline, period, jitter, wanted) in &FLAWS {
+        let flaws = flaws(numbers(work, deadline, period, jitter));
+        agree(&rt, flaws, wanted);
+    }
 }
 
 #[test]
-fn frames_and_steps(rt: HostRuntime) -> Result<(), Fail> {
-    assert_eq!(rt; (is_frame(0), is_frame(1)), (false, true));
-    assert_eq!(rt; (is_frame(HORIZON), is_frame(HORIZON + 1)), (true, false));
-    let b = row(2, 6, 6, 1)?;
-    assert_eq!(rt; (b.steps(0), b.steps(5), b.steps(6)), (2, 2, 4));
-    assert_eq!(rt; (b.stands_on(12), b.stands_on(9)), (true, false));
-    assert_eq!(rt; b.window(), 5);
-    Ok(())
+fn frames_and_steps(rt: HostRuntime) {
+    let frames = [
+        is_frame(0),
+        is_frame(1),
+        is_frame(HORIZON),
+        is_frame(HORIZON + 1),
+    ];
+    agree(&rt, frames, [false, true, true, false]);
+    let b = row(2, 6, 6, 1);
+    agree(&rt, [b.steps(0), b.steps(5), b.steps(6)], [2, 2, 4]);
+    let stands = (b.stands_on(12), b.stands_on(9), b.window());
+    agree(&rt, stands, (true, false, 5));
 }
 
 // Whether two refusals are one: the equality that is derived decides it.
@@ -135,6 +130,7 @@ fn is_same(a: Refusal, b: Refusal) -> bool
 
 #[test]
 fn refusals_are_told_apart(rt: HostRuntime) {
-    assert!(rt; is_same(Refusal::IdleRow, Refusal::IdleRow));
-    assert!(rt; !is_same(Refusal::IdleRow, Refusal::NoWindow));
+    let same = is_same(Refusal::IdleRow, Refusal::IdleRow);
+    let other = is_same(Refusal::IdleRow, Refusal::NoWindow);
+    agree(&rt, (same, other), (true, false));
 }

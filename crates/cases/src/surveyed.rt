@@ -1,11 +1,45 @@
 // Surveys of whole tables: how many rows, which refusal comes first, and what the list holds
 // afterwards.
+use crate::agreeing::agree;
+use crate::bounded::tail;
 use crate::building::{meets, misses, numbers};
-use bounds::{ExactSteps, LinearTail, Supplied};
+use bounds::{Bound, ExactSteps, Supplied};
 use rows::{Fault, HORIZON, Numbers, Refusal};
-use std::test::Fail;
 use tables::survey;
 use verdicts::Finding;
+
+// The worked table: A, B and E, as plain numbers.
+pub(crate) const TABLE: [Numbers; 3] = [
+    Numbers {
+        work: 1,
+        deadline: 4,
+        period: 4,
+        jitter: 0,
+    },
+    Numbers {
+        work: 2,
+        deadline: 6,
+        period: 6,
+        jitter: 1,
+    },
+    Numbers {
+        work: 3,
+        deadline: 12,
+        period: 12,
+        jitter: 0,
+    },
+];
+
+// What a survey by a bound answers, and its list of so many places afterwards.
+pub(crate) fn surveyed<B: Bound, const N: usize>(
+    bound: &B,
+    frame: u32,
+    table: &[Numbers],
+) -> (Result<usize, Fault>, [Finding; N]) {
+    let mut list = [misses(7); N];
+    let answer = survey(bound, frame, table, &mut list);
+    (answer, list)
+}
 
 // What a survey in exact steps answers, and the first two places of its list of three afterwards.
 fn answered(frame: u32, table: &[Numbers]) -> (Result<usize, Fault>, Finding, Finding) {
@@ -14,134 +48,157 @@ fn answered(frame: u32, table: &[Numbers]) -> (Result<usize, Fault>, Finding, Fi
     (answer, list[0], list[1])
 }
 
-// The answer to a survey that is refused and leaves its list.
-fn refused(fault: Fault) -> (Result<usize, Fault>, Finding, Finding) {
-    (Err(fault), misses(7), misses(8))
-}
-
 #[test]
 fn no_row_and_one_row(rt: HostRuntime) {
-    assert_eq!(rt; answered(12, &[]), (Ok(0), misses(7), misses(8)));
-    assert_eq!(rt;
-        answered(12, &[numbers(1, 4, 4, 0)]),
-        (Ok(1), meets(1, 1), misses(8))
-    );
+    agree(&rt, answered(12, &[]), (Ok(0), misses(7), misses(8)));
+    let one = answered(12, &[numbers(1, 4, 4, 0)]);
+    agree(&rt, one, (Ok(1), meets(1, 1), misses(8)));
 }
 
 // The worked table, into a list with a place to spare.
 #[test]
-fn places_past_the_last_row_stay(rt: HostRuntime) -> Result<(), Fail> {
-    let table = [
-        numbers(1, 4, 4, 0),
-        numbers(2, 6, 6, 1),
-        numbers(3, 12, 12, 0),
-    ];
-    let mut list = [misses(7); 4];
-    assert_eq!(rt; survey(&LinearTail::new(2)?, 12, &table, &mut list)?, 3);
-    assert_eq!(rt; list, [meets(1, 1), meets(3, 1), misses(3), misses(7)]);
-    let mut short = [misses(7); 2];
-    assert_eq!(rt;
-        survey(&ExactSteps, 12, &table, &mut short),
-        Err(Refusal::ShortList.at(0))
-    );
-    assert_eq!(rt; short, [misses(7); 2]);
-    Ok(())
+fn places_past_the_last_row_stay(rt: HostRuntime) {
+    let found = [meets(1, 1), meets(3, 1), misses(3), misses(7)];
+    agree(&rt, surveyed(&tail(&rt, 2), 12, &TABLE), (Ok(3), found));
+    let short = Refusal::ShortList.at(0);
+    let wanted = (Err(short), [misses(7); 2]);
+    agree(&rt, surveyed(&ExactSteps, 12, &TABLE), wanted);
 }
 
 // The worked table by a supplied bound: as by the bound that it names.
 #[test]
-fn surveys_by_supplied_bounds(rt: HostRuntime) -> Result<(), Fail> {
-    let table = [
-        numbers(1, 4, 4, 0),
-        numbers(2, 6, 6, 1),
-        numbers(3, 12, 12, 0),
-    ];
-    let mut list = [misses(7); 3];
-    let steps = Supplied::ExactSteps;
-    assert_eq!(rt; survey(&steps, 12, &table, &mut list)?, 3);
-    assert_eq!(rt; list, [meets(1, 1), meets(3, 1), meets(10, 4)]);
-    let tail = Supplied::LinearTail(LinearTail::new(2)?);
-    assert_eq!(rt; survey(&tail, 12, &table, &mut list)?, 3);
-    assert_eq!(rt; list, [meets(1, 1), meets(3, 1), misses(3)]);
-    Ok(())
+fn surveys_by_supplied_bounds(rt: HostRuntime) {
+    let steps = surveyed(&Supplied::ExactSteps, 12, &TABLE);
+    agree(
+        &rt,
+        steps,
+        (Ok(3), [meets(1, 1), meets(3, 1), meets(10, 4)]),
+    );
+    let found = [meets(1, 1), meets(3, 1), misses(3)];
+    let tail = Supplied::LinearTail(tail(&rt, 2));
+    agree(&rt, surveyed(&tail, 12, &TABLE), (Ok(3), found));
+}
+
+// Four places of a list of 34.
+fn places(list: &[Finding; 34]) -> [Finding; 4] {
+    [list[0], list[30], list[31], list[32]]
 }
 
 // Thirty-two rows of work 1 and period 32: the last rests at 32. There is no 33rd.
 #[test]
-fn as_many_rows_as_may_stand(rt: HostRuntime) -> Result<(), Fail> {
+fn as_many_rows_as_may_stand(rt: HostRuntime) {
     let mut list = [misses(7); 34];
     let table = [numbers(1, 32, 32, 0); 32];
-    assert_eq!(rt; survey(&ExactSteps, 32, &table, &mut list)?, 32);
-    assert_eq!(rt; (list[0], list[30]), (meets(1, 1), meets(31, 1)));
-    assert_eq!(rt; (list[31], list[32]), (meets(32, 1), misses(7)));
+    let answer = survey(&ExactSteps, 32, &table, &mut list);
+    let found = [meets(1, 1), meets(31, 1), meets(32, 1), misses(7)];
+    agree(&rt, (answer, places(&list)), (Ok(32), found));
     let crowd = [numbers(0, 0, 0, 0); 33];
-    assert_eq!(rt;
-        survey(&ExactSteps, 32, &crowd, &mut list),
-        Err(Refusal::FullTable.at(0))
-    );
-    assert_eq!(rt; (list[0], list[32]), (meets(1, 1), misses(7)));
-    Ok(())
+    let answer = survey(&ExactSteps, 32, &crowd, &mut list);
+    let full = Refusal::FullTable.at(0);
+    agree(&rt, (answer, places(&list)), (Err(full), found));
 }
 
-// The frame comes before the number of rows, that before the places, and those before any row.
-#[test]
-fn what_concerns_no_row_comes_first(rt: HostRuntime) {
-    let crowd = [numbers(0, 0, 0, 0); 33];
-    for frame in [0, HORIZON + 1] {
-        assert_eq!(rt; answered(frame, &crowd), refused(Refusal::BadFrame.at(0)));
-    }
-    assert_eq!(rt; answered(1, &crowd), refused(Refusal::FullTable.at(0)));
-    let four = [numbers(0, 0, 0, 0); 4];
-    assert_eq!(rt; answered(1, &four), refused(Refusal::ShortList.at(0)));
-}
+// Numbers that are a row on a frame of 6, and numbers that are not: the name tells the first flaw.
+const GOOD: Numbers = Numbers {
+    work: 1,
+    deadline: 6,
+    period: 6,
+    jitter: 0,
+};
 
-// All rows are checked for one thing before any is checked for the next.
-#[test]
-fn the_smaller_number_comes_before_the_smaller_rank(rt: HostRuntime) {
-    let good = numbers(1, 6, 6, 0);
-    let idle = numbers(0, 9, 6, 9);
-    let windowless = numbers(5, 6, 6, 2);
-    let late = numbers(1, 7, 6, 0);
-    let long = numbers(1, 1, HORIZON + 1, 0);
-    let off = numbers(1, 5, 5, 0);
-    let cases = [
-        (windowless, idle, Refusal::IdleRow),
-        (late, windowless, Refusal::NoWindow),
-        (long, late, Refusal::LateDeadline),
-        (off, long, Refusal::LongPeriod),
-        (good, off, Refusal::OffFrame),
-    ];
-    for (first, second, refusal) in cases {
-        assert_eq!(rt; answered(6, &[first, second]), refused(refusal.at(2)));
-    }
-}
+const IDLE: Numbers = Numbers {
+    work: 0,
+    deadline: 9,
+    period: 6,
+    jitter: 9,
+};
 
-// A row with several flaws is refused for the first of them.
-#[test]
-fn one_row_with_several_flaws(rt: HostRuntime) {
-    let cases = [
-        (numbers(0, 1, 6, 9), Refusal::IdleRow),
-        (numbers(9, 8, 7, 0), Refusal::NoWindow),
-        (numbers(1, u32::MAX, HORIZON + 1, 0), Refusal::LateDeadline),
-        (numbers(1, 1, HORIZON + 1, 0), Refusal::LongPeriod),
-    ];
-    for (four, refusal) in cases {
-        assert_eq!(rt; answered(6, &[four]), refused(refusal.at(1)));
-    }
-}
+const WINDOWLESS: Numbers = Numbers {
+    work: 5,
+    deadline: 6,
+    period: 6,
+    jitter: 2,
+};
 
-// Of the rows with one flaw the first is told, also past rows with others.
+const LATE: Numbers = Numbers {
+    work: 1,
+    deadline: 7,
+    period: 6,
+    jitter: 0,
+};
+
+const LONG: Numbers = Numbers {
+    work: 1,
+    deadline: 1,
+    period: HORIZON + 1,
+    jitter: 0,
+};
+
+const OFF: Numbers = Numbers {
+    work: 1,
+    deadline: 5,
+    period: 5,
+    jitter: 0,
+};
+
+// Four numbers of 0.
+const ZERO: Numbers = Numbers {
+    work: 0,
+    deadline: 0,
+    period: 0,
+    jitter: 0,
+};
+
+// Numbers with several flaws.
+const IDLE_AND_LATER: Numbers = Numbers {
+    work: 0,
+    deadline: 1,
+    period: 6,
+    jitter: 9,
+};
+
+const WINDOWLESS_AND_LATER: Numbers = Numbers {
+    work: 9,
+    deadline: 8,
+    period: 7,
+    jitter: 0,
+};
+
+const LATE_AND_LATER: Numbers = Numbers {
+    work: 1,
+    deadline: u32::MAX,
+    period: HORIZON + 1,
+    jitter: 0,
+};
+
+// A frame and a table each, with the refusal and its place.
+static REFUSED: [(u32, &[Numbers], Refusal, u32); 16] = [
+    // The frame comes before the number of rows, that before the places, and those before any row.
+    (0, &[ZERO; 33], Refusal::BadFrame, 0),
+    (HORIZON + 1, &[ZERO; 33], Refusal::BadFrame, 0),
+    (1, &[ZERO; 33], Refusal::FullTable, 0),
+    (1, &[ZERO; 4], Refusal::ShortList, 0),
+    // All rows are checked for one thing before any is checked for the next.
+    (6, &[WINDOWLESS, IDLE], Refusal::IdleRow, 2),
+    (6, &[LATE, WINDOWLESS], Refusal::NoWindow, 2),
+    (6, &[LONG, LATE], Refusal::LateDeadline, 2),
+    (6, &[OFF, LONG], Refusal::LongPeriod, 2),
+    (6, &[GOOD, OFF], Refusal::OffFrame, 2),
+    // A row with several flaws is refused for the first of them.
+    (6, &[IDLE_AND_LATER], Refusal::IdleRow, 1),
+    (6, &[WINDOWLESS_AND_LATER], Refusal::NoWindow, 1),
+    (6, &[LATE_AND_LATER], Refusal::LateDeadline, 1),
+    (6, &[LONG], Refusal::LongPeriod, 1),
+    // Of the rows with one flaw the first is told, also past rows with others.
+    (6, &[GOOD, IDLE, IDLE], Refusal::IdleRow, 2),
+    (6, &[OFF, GOOD, IDLE], Refusal::IdleRow, 3),
+    (6, &[OFF, OFF, OFF], Refusal::OffFrame, 1),
+];
+
 #[test]
-fn the_smallest_rank_is_told(rt: HostRuntime) {
-    let good = numbers(1, 6, 6, 0);
-    let idle = numbers(0, 9, 6, 9);
-    let off = numbers(1, 5, 5, 0);
-    let cases = [
-        ([good, idle, idle], Refusal::IdleRow.at(2)),
-        ([off, good, idle], Refusal::IdleRow.at(3)),
-        ([off, off, off], Refusal::OffFrame.at(1)),
-    ];
-    for (table, fault) in cases {
-        assert_eq!(rt; answered(6, &table), refused(fault));
+fn refusals_in_their_order(rt: HostRuntime) {
+    for &(frame, table, refusal, at) in &REFUSED {
+        let wanted = (Err(refusal.at(at)), misses(7), misses(8));
+        agree(&rt, answered(frame, table), wanted);
     }
 }
