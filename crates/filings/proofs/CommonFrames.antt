@@ -10,7 +10,6 @@ use Rattle.rows.specs.Times.{horizon}
 use Rattle.bounds.specs.Instants.{IsFirst}
 use Rattle.bounds.specs.Lemmas.Instants.{least_some, least_none}
 use Rattle.filings.specs.Frames.{is_common, common_frame, IsCommonFrame, HasNoFrame, IsJoined, CannotBeJoined}
-use Rattle.std.proofs.Math.Nat.{mod-one}
 use Rattle.std.proofs.lemmas.Nat.Gcd.{dvd_of_mod-eq-zero, dvd_trans, le_of_dvd, mod-eq-zero_of_dvd}
 use Prim.Native.Nat.{◌∣◌}
 
@@ -18,10 +17,6 @@ use Prim.Native.Nat.{◌∣◌}
 is_false : (b : Bool) → (b ≡ true → ⊥) → b ≡ false
 is_false true not_true = absurd (not_true refl)
 is_false false not_true = refl
-
--- of no periods the common frame is 1
-pub first_frame : IsCommonFrame [] 1
-first_frame = record { frame = refl; common = refl; each = λ m all. mod-one m }
 
 module _ (table : List Numbers) (i : ℕ) (d : Numbers) (within : i < length table) (h : ℕ) (before : IsCommonFrame (take i table) h) where
   abbrev period : ℕ

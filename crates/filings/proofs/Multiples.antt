@@ -1,6 +1,6 @@
 -- The greatest common divisor of two numbers, and their least common multiple.
-use Rattle.std.proofs.Common.{◌≡◌, ℕ, zero, suc, ◌+◌, ◌*◌, ◌/◌, ◌%◌, ◌<◌, ◌≤◌, sym, ap, ◌∙◌, subst, arith}
-use Rattle.std.proofs.Math.Nat.{div-mul_cancel, add-mul-mod_self_right, mul-mod_left, mul-div_cancel_left, eq-zero_of_zero-dvd}
+use Rattle.std.proofs.Common.{◌≡◌, ℕ, zero, suc, ◌+◌, ◌*◌, ◌/◌, ◌%◌, ◌<◌, ◌≤◌, sym, ap, ◌∙◌, arith}
+use Rattle.std.proofs.Math.Nat.{div-mul_cancel, add-mul-mod_self_right, mul-mod_left, mul-div_cancel_left}
 use Rattle.std.proofs.lemmas.Bool.{and_from, le-leb}
 use Rattle.std.proofs.lemmas.Nat.{div-add-mod', mul-le}
 use Rattle.std.proofs.lemmas.Nat.Gcd.{dvd_of_mod-eq-zero, le_of_dvd}
@@ -81,9 +81,3 @@ module _ (a b g : ℕ) (some : 1 ≤ a) (divides : DividesBoth a b g) where
   never_joined far m low near of_a of_b =
       let least : joined ≤ m = le_of_dvd (omega arith) (dvd_of_mod-eq-zero joined (divides_each m of_a of_b)) in
       omega (arith, least)
-
--- nor is any, of 0 and another number
-pub none_of_zero : (a b : ℕ) → b ≡ 0 → CannotBeJoined a b
-none_of_zero a b is m low near of_a of_b =
-    let none : m ≡ 0 = eq-zero_of_zero-dvd (dvd_of_mod-eq-zero 0 (subst (λ n. m % n ≡ 0) is of_b)) in
-    omega (arith, none)

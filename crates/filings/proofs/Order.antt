@@ -7,7 +7,7 @@ use Rattle.rows.specs.declared.tasks.Numbers.{Numbers}
 use Rattle.rows.specs.Answers.{Answer, Check, check, check_each, checked, first_refusal, gives, Passes, refuses, refuses_at}
 use Rattle.rows.specs.Judging.{is_off_frame, row_flaws, table_flaw_checks}
 use Rattle.rows.specs.Times.{is_frame, most_rows}
-use Rattle.rows.proofs.Checks.{each_passes, first_passes, gives_any, passed_first, passes_on, places_pass_on, refused_first, refuses_any}
+use Rattle.rows.proofs.Checks.{each_passes, first_passes, gives_any, passed_first, passes_on, places_pass_on, refuses_any}
 use Rattle.tables.specs.Surveys.{survey_checks}
 use Rattle.filings.specs.Frames.{common_frame, is_common}
 use Rattle.filings.specs.Checks.{accuracy_checks, filing_checks, frame_checks, IsJudged, period_check, table_checks}
@@ -66,18 +66,8 @@ framed_alike h table z common is =
     behind (number_checks table) (period_check (Some h) table ∷ []) (period_check None table ∷ []) z (on ∙ sym found)
 
 module _ (frame accuracy : Option ℕ) (table : List Numbers) where
-  -- what the frame is refused for is refused of all of it
-  pub frame_refused : {A : Type 0} (n at : ℕ) → refuses n at ≡ first_refusal (frame_checks frame) → (z : A) → refuses n at ≡ checked (filing_checks frame accuracy table) z
-  frame_refused n at refused z = refused_first (frame_checks frame) (accuracy_checks accuracy ++ table_checks frame table) n at tt refused z
-
   module _ (framed : Passes (frame_checks frame)) where
-    -- and so it is with the accuracy
-    pub accuracy_refused : {A B : Type 0} (n at : ℕ) (y : B) → refuses n at ≡ checked (accuracy_checks accuracy) y → (z : A) → refuses n at ≡ checked (filing_checks frame accuracy table) z
-    accuracy_refused n at y refused z =
-        refused_first (accuracy_checks accuracy) (table_checks frame table) n at y refused z
-        ∙ passed_first (frame_checks frame) (accuracy_checks accuracy ++ table_checks frame table) tt tt framed z
-
-    -- and then the table is left
+    -- once the frame and the accuracy have passed, the table is left
     pub table_left : {A B : Type 0} (x y : B) → gives x ≡ checked (accuracy_checks accuracy) y → (z : A) → checked (table_checks frame table) z ≡ checked (filing_checks frame accuracy table) z
     table_left x y accurate z =
         passed_first (accuracy_checks accuracy) (table_checks frame table) x y accurate z

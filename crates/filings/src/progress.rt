@@ -1,8 +1,10 @@
 // How far a count has come, told while it runs.
+ghost use Rattle.std.specs.Prelude.{◌≡◌};
 
 /// What is told after each row that was counted both ways.
 pub trait Progress {
-    /// So many rows are counted, of so many that the table has.
+    /// So many rows are counted, of so many that the table has. Whatever the method does, the count
+    /// stays the same.
     fn counted(&mut self, rows: usize, of: usize);
 }
 
@@ -11,5 +13,7 @@ pub trait Progress {
 pub struct Quiet;
 
 impl Progress for Quiet {
-    fn counted(&mut self, _rows: usize, _of: usize) {}
+    fn counted(&mut self, _rows: usize, _of: usize)
+        ensures { self.new ≡ self.old }
+    {}
 }

@@ -1,8 +1,7 @@
 // A table written as CSV.
-ghost use Rattle.std.specs.Prelude.{◌≡◌, ◌∷◌, [], IfOk, OnOk, map, Ok};
+ghost use Rattle.std.specs.Prelude.{◌≡◌, IfOk, OnOk, map, Ok};
 ghost use Rattle.std.specs.Io.KnownBytes.{Appends};
 ghost use Rattle.csv.specs.Reading.{AreRecords, default_config};
-ghost use Rattle.csv.specs.Records.{fields_of};
 ghost use Rattle.csv.specs.Writing.{read_back, row_text, default_writer, text_written};
 ghost use Rattle.csv.specs.declared.parser.State.TheVariants as st;
 ghost use Rattle.grid_csv.specs.Fields.{NumbersReadBack, fields_from, headings_of, records_of};

@@ -1,9 +1,9 @@
 // A table written as JSON.
-ghost use Rattle.std.specs.Prelude.{◌≡◌, ◌++◌, ◌∷◌, [], IfOk, IsUtf8, OnOk, string_bytes};
+ghost use Rattle.std.specs.Prelude.{◌≡◌, ◌++◌, IfOk, IsUtf8, OnOk, string_bytes};
 ghost use Rattle.json.specs.Token as token;
 ghost use Rattle.json.specs.Tree.{items_tokens, json_tokens, members_tokens};
 ghost use Rattle.grid_json.specs.Reads.{IsTextOf, NumbersReadBack, ReadsAs};
-ghost use Rattle.grid_json.specs.Trees.{cell_tree, members_from, rows_tree, table_tree, tree_at};
+ghost use Rattle.grid_json.specs.Trees.{cell_tree, members_from, rows_tree, tree_at};
 
 use grids::{Cell, Grid};
 use json::Writer;

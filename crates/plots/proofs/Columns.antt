@@ -1,45 +1,9 @@
 -- Columns of instants, and the first test points in them.
-use Rattle.std.proofs.Common.{IsTrue, List, length, get_or, ◌≡◌, ℕ, ◌+◌, ◌-◌, ◌*◌, ◌/◌, ◌<◌, ◌≤◌, Bool, ap, ◌∙◌, subst, ⊎_elim, arith}
-use Rattle.std.proofs.lemmas.Bool.{cases_lt}
+use Rattle.std.proofs.Common.{IsTrue, List, length, get_or, ◌≡◌, ℕ, ◌+◌, ◌-◌, ◌*◌, ◌/◌, ◌<◌, ◌≤◌, Bool, ap, ◌∙◌, subst, arith}
 use Rattle.std.proofs.lemmas.Nat.{div-mul-add}
-use Rattle.std.proofs.Math.Nat.{mul-div-le, mul-le-mul_left}
 use Rattle.std.specs.BTreeSet.{BTreeSet, btree_set_len}
 use Rattle.rows.specs.Times.{ceiling}
-use Rattle.bounds.specs.Instants.{IsFirst}
-use Rattle.bounds.specs.Lemmas.Instants.{first_unique}
 use Rattle.plots.specs.Thinning.{Draws, DrawsColumns, DrawsMore, DrawsRest, DrawsWithin, IsThinned}
-
--- the columns before the last reach no farther than the window and a column less one
-pub column_fits : (i window : ℕ) → i < 720 → i * ceiling window 720 + ceiling window 720 ≤ window + 719
-column_fits i window few =
-    let whole : 720 * ceiling window 720 ≤ window + 719 = mul-div-le (window + 719) 720 in
-    let more : ceiling window 720 * (i + 1) ≤ ceiling window 720 * 720 = mul-le-mul_left (ceiling window 720) (omega (arith, few)) in
-    omega (arith, whole, more)
-
-module _ (tested : ℕ → Bool) (window width : ℕ) where
-  -- one column more
-  pub column_more : (i : ℕ) (old new : BTreeSet ℕ) → DrawsColumns tested window width i old → DrawsMore old new
-      → ((t : ℕ) → IsFirst tested (i * width) window t → t ≤ i * width + width → Draws new t) → DrawsColumns tested window width (i + 1) new
-  column_more i old new firsts more here k t low first near =
-      ⊎_elim (λ (l : k < i). more t (firsts k t l first near))
-      (λ (l : i ≤ k). let e : k ≡ i = omega arith in here t (subst (λ j. IsFirst tested (j * width) window t) e first) (subst (λ j. t ≤ j * width + width) e near))
-      (cases_lt k i)
-
-  -- its first test point is drawn
-  pub column_drawn : (start point : ℕ) (new : BTreeSet ℕ) → IsFirst tested start window point → Draws new point
-      → (t : ℕ) → IsFirst tested start window t → t ≤ start + width → Draws new t
-  column_drawn start point new first drawn t other near = subst (Draws new) (first_unique tested first other) drawn
-
-  -- or its first test point lies in a later column
-  pub column_later : (start point : ℕ) (new : BTreeSet ℕ) → IsFirst tested start window point → start + width < point
-      → (t : ℕ) → IsFirst tested start window t → t ≤ start + width → Draws new t
-  column_later start point new first late t other near =
-      let e : t ≡ point = first_unique tested other first in absurd (omega arith)
-
-  -- or it begins past the window
-  pub column_past : (start : ℕ) (new : BTreeSet ℕ) → window ≤ start
-      → (t : ℕ) → IsFirst tested start window t → t ≤ start + width → Draws new t
-  column_past start new past t other near = absurd (omega (arith, other.after, other.within))
 
 -- columns of a window that is no longer than there are columns have one instant
 pub narrow : (window : ℕ) → 1 ≤ window → window ≤ 720 → ceiling window 720 ≡ 1

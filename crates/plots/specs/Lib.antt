@@ -1,3 +1,5 @@
-pub mod Escaping
-pub mod Scales
+pub mod Tested
 pub mod Thinning
+pub mod Pictures
+pub mod Scales
+pub mod Escaping

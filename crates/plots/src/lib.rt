@@ -2,17 +2,19 @@
 //! points and the first rests. Long spans are thinned without losing a corner that decides.
 #![tactic(auto)]
 
-mod axes;
-mod curves;
 mod drawings;
 mod escaping;
+mod filling;
+mod forms;
 mod layout;
-mod legends;
+mod lines;
 mod marks;
+mod pictures;
 mod plotting;
 mod points;
 mod scales;
 mod thinning;
 
 pub use drawings::{Drawing, draw};
+pub use pictures::{Picture, Point, picture_of};
 pub use thinning::{COLUMNS, instants};

@@ -1,9 +1,9 @@
 // The marks of a picture: test points below the axis of time, and first rests on the curves.
-use crate::layout::{BOUNDED_LANE, EXACT_LANE, FOOT, LEFT, Tenths};
+use crate::filling::{Value, fill};
+use crate::forms::{BOUNDED_REST, DIAMOND, EXACT_REST, LANES, MARKED, STROKE, STROKES};
+use crate::layout::{FOOT, LEFT};
+use crate::pictures::Point;
 use crate::plotting::Plot;
-use crate::points::is_point;
-use bounds::{Bound, ExactSteps};
-use std::collections::BTreeSet;
 use std::io;
 use std::io::Write;
 
@@ -20,119 +20,87 @@ const BOUNDED_LABEL: i64 = 1530;
 
 const RIGHT: i64 = 8950;
 
-// The test points by a bound among the instants that are kept.
-pub(crate) fn count_drawn<B: Bound>(plot: &Plot<'_>, bound: &B, kept: &BTreeSet<u32>) -> u32 {
-    let mut drawn = 0u32;
-    for at in kept {
-        if is_point(bound, plot.drawing.above, *at, plot.window) {
-            drawn = drawn.saturating_add(1);
+// A mark for each test point that is drawn.
+fn draw_points<W: Write>(
+    plot: &Plot<'_>,
+    points: &[Point],
+    form: &str,
+    writer: &mut W,
+) -> io::Result<()> {
+    for point in points {
+        if point.tested {
+            fill(writer, form, &[Value::Tenths(plot.x(point.at))])?;
         }
     }
-    drawn
+    Ok(())
 }
 
-// A diamond for each test point by the linear tail that is kept.
-pub(crate) fn draw_bounded_points<W: Write>(
-    plot: &Plot<'_>,
-    kept: &BTreeSet<u32>,
-    writer: &mut W,
-) -> io::Result<()> {
-    let y = Tenths(BOUNDED_LANE - 45);
-    write!(writer, "<path class=\"diamond\" d=\"")?;
-    for at in kept {
-        if is_point(plot.drawing.tail, plot.drawing.above, *at, plot.window) {
-            let x = plot.x(*at);
-            write!(writer, "M{x} {y}l3.5 4.5l-3.5 4.5l-3.5 -4.5z")?;
-        }
+// On which side of its mark a label stands: how far away, and which of its ends is there.
+fn side(right: bool) -> (Value<'static>, Value<'static>) {
+    if right {
+        (Value::Words("9"), Value::Words("start"))
+    } else {
+        (Value::Words("-9"), Value::Words("end"))
     }
-    writeln!(writer, "\"/>")
 }
 
-// A stroke for each test point in exact steps that is kept.
-pub(crate) fn draw_exact_points<W: Write>(
-    plot: &Plot<'_>,
-    kept: &BTreeSet<u32>,
-    writer: &mut W,
-) -> io::Result<()> {
-    let y = Tenths(EXACT_LANE - 35);
-    write!(writer, "<path class=\"stroke\" d=\"")?;
-    for at in kept {
-        if is_point(&ExactSteps, plot.drawing.above, *at, plot.window) {
-            let x = plot.x(*at);
-            write!(writer, "M{x} {y}v7")?;
-        }
-    }
-    writeln!(writer, "\"/>")
-}
-
-// What each line of marks is for.
-pub(crate) fn draw_lanes<W: Write>(words: &str, writer: &mut W) -> io::Result<()> {
-    let x = Tenths(LEFT - 60);
-    let bounded = Tenths(BOUNDED_LANE);
-    let exact = Tenths(EXACT_LANE);
-    writeln!(
-        writer,
-        "<text class=\"small\" x=\"{x}\" y=\"{bounded}\" dy=\"5\" text-anchor=\"end\">{words}</text>"
-    )?;
-    writeln!(
-        writer,
-        "<text class=\"small\" x=\"{x}\" y=\"{exact}\" dy=\"4\" text-anchor=\"end\">exact</text>"
-    )
-}
-
-// Puts a label beside a mark, on its right or on its left.
-fn draw_label<W: Write>(
-    x: Tenths,
-    y: Tenths,
-    dy: i64,
-    right: bool,
-    words: &str,
-    rest: u32,
-    writer: &mut W,
-) -> io::Result<()> {
-    let dx = if right { 9 } else { -9 };
-    let anchor = if right { "start" } else { "end" };
-    writeln!(
-        writer,
-        "<text class=\"label\" x=\"{x}\" y=\"{y}\" dx=\"{dx}\" dy=\"{dy}\" text-anchor=\"{anchor}\">{words} {rest}</text>"
-    )
-}
-
-// The first rest in exact steps: a filled circle, and its label below it on the right, where the
-// curves have risen.
-pub(crate) fn draw_exact_rest<W: Write>(
-    plot: &Plot<'_>,
-    rest: u32,
-    writer: &mut W,
-) -> io::Result<()> {
+// The first rest in exact steps: its label below it on the right, where the curves have risen.
+fn draw_exact_rest<W: Write>(plot: &Plot<'_>, rest: u32, writer: &mut W) -> io::Result<()> {
     let x = plot.x(rest);
     let y = plot.y(plot.exact(rest));
-    let dy = if y.0 > FOOT - ROOM { -9 } else { 18 };
-    let right = x.0 <= RIGHT - EXACT_LABEL;
-    draw_label(x, y, dy, right, "exact", rest, writer)?;
-    writeln!(
-        writer,
-        "<circle class=\"rest\" cx=\"{x}\" cy=\"{y}\" r=\"5\"/>"
-    )
+    let dy = Value::Words(if y > FOOT - ROOM { "-9" } else { "18" });
+    let (dx, end) = side(x <= RIGHT - EXACT_LABEL);
+    let x = Value::Tenths(x);
+    let y = Value::Tenths(y);
+    let rest = Value::Whole(u64::from(rest));
+    fill(writer, EXACT_REST, &[x, y, dx, dy, end, rest, x, y])
 }
 
-// The first rest by the linear tail: an open square, and its label above it on the left, where the
-// curves have not risen yet.
-pub(crate) fn draw_bounded_rest<W: Write>(
+// The first rest by the linear tail: its label above it on the left, where the curves have not risen
+// yet.
+fn draw_bounded_rest<W: Write>(
     plot: &Plot<'_>,
     rest: u32,
-    words: &str,
+    words: Value<'_>,
     writer: &mut W,
 ) -> io::Result<()> {
     let x = plot.x(rest);
     let y = plot.y(plot.bounded(rest));
-    let dy = if y.0 > FOOT - ROOM_ABOVE { -24 } else { -9 };
-    let right = x.0 < LEFT + BOUNDED_LABEL;
-    draw_label(x, y, dy, right, words, rest, writer)?;
-    let corner = Tenths(x.0.saturating_sub(55));
-    let head = Tenths(y.0.saturating_sub(55));
-    writeln!(
+    let dy = Value::Words(if y > FOOT - ROOM_ABOVE { "-24" } else { "-9" });
+    let (dx, end) = side(x < LEFT + BOUNDED_LABEL);
+    let corner = Value::Tenths(x.saturating_sub(55));
+    let head = Value::Tenths(y.saturating_sub(55));
+    let x = Value::Tenths(x);
+    let y = Value::Tenths(y);
+    let rest = Value::Whole(u64::from(rest));
+    fill(
         writer,
-        "<rect class=\"rest\" x=\"{corner}\" y=\"{head}\" width=\"11\" height=\"11\"/>"
+        BOUNDED_REST,
+        &[x, y, dx, dy, end, words, rest, corner, head],
     )
+}
+
+// The marks of the test points.
+fn draw_lanes<W: Write>(plot: &Plot<'_>, words: Value<'_>, writer: &mut W) -> io::Result<()> {
+    fill(writer, LANES, &[words])?;
+    draw_points(plot, &plot.picture.bounded, DIAMOND, writer)?;
+    fill(writer, STROKES, &[])?;
+    draw_points(plot, &plot.picture.exact, STROKE, writer)?;
+    fill(writer, MARKED, &[])
+}
+
+// All marks.
+pub(crate) fn draw_marks<W: Write>(
+    plot: &Plot<'_>,
+    words: Value<'_>,
+    writer: &mut W,
+) -> io::Result<()> {
+    draw_lanes(plot, words, writer)?;
+    if let Some(rest) = plot.picture.exact_rest {
+        draw_exact_rest(plot, rest, writer)?;
+    }
+    if let Some(rest) = plot.picture.bounded_rest {
+        draw_bounded_rest(plot, rest, words, writer)?;
+    }
+    Ok(())
 }

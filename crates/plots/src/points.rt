@@ -5,6 +5,7 @@ ghost use Rattle.rows.specs.Times.{horizon};
 ghost use Rattle.bounds.specs.Answering.{corner_after};
 ghost use Rattle.bounds.specs.Instants.{IsFirst, count};
 ghost use Rattle.findings.specs.Points.{is_test_point};
+ghost use Rattle.plots.specs.Tested.{is_tested};
 
 use bounds::Bound;
 use rows::Row;
@@ -29,11 +30,23 @@ pub(crate) fn next_point<B: Bound>(bound: &B, above: &[Row], after: u32, window:
     nearest_corner(bound, above, after, window)
 }
 
+// Whether an instant from 1 to the window is a test point.
+#[tactic(auto, using(crate::proofs::Walk::first_tested))]
+fn is_next<B: Bound>(bound: &B, above: &[Row], at: u32, window: u32) -> bool
+    requires some { 1 ≤ at }
+    requires inside { at ≤ window }
+    requires near { window ≤ horizon }
+    ensures { result ≡ is_test_point (B.meaning bound.now) above.now window at }
+{
+    next_point(bound, above, at - 1, window) == at
+}
+
 // Whether an instant is a test point.
 pub(crate) fn is_point<B: Bound>(bound: &B, above: &[Row], at: u32, window: u32) -> bool
     requires { window ≤ horizon }
+    ensures { result ≡ is_tested (B.meaning bound.now) above.now window at }
 {
-    at != 0 && at <= window && next_point(bound, above, at - 1, window) == at
+    1 <= at && at <= window && is_next(bound, above, at, window)
 }
 
 // How many test points there are up to the window.

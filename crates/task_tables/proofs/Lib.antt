@@ -1,7 +1,5 @@
 pub mod Decimals
-pub mod Digits
 pub mod Distinct
-pub mod NumberOf
 pub mod ReadRows
 pub mod Rows
 pub mod Named

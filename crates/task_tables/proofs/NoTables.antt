@@ -17,7 +17,8 @@ use Rattle.task_tables.specs.declared.tables.TaskTable.{TaskTable}
 use Rattle.task_tables.specs.Columns.{IsHeading}
 use Rattle.task_tables.specs.Forms.{config_of, fields_in, form_of, says}
 use Rattle.task_tables.specs.Refusals.{AreNoHeading, AreNoTable, CannotTake, IsNoTable}
-use Rattle.task_tables.specs.Tables.{IsTable, MayHold, rows_in, table_columns, table_names, table_numbers}
+use Rattle.streams.specs.Held.{MayHold}
+use Rattle.task_tables.specs.Tables.{IsTable, rows_in, table_columns, table_names, table_numbers}
 use Rattle.task_tables.specs.Tasks.{name_of, numbers_of}
 use Rattle.task_tables.proofs.Named.{same_columns}
 use Rattle.task_tables.proofs.ReadRows.{rows_in-take}

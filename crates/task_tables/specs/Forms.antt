@@ -6,7 +6,8 @@ use Rattle.csv.specs.Reading.{default_config, strip_bom}
 use Rattle.csv.specs.declared.parser.Config.{Config}
 use Rattle.task_tables.specs.declared.forms.Form.{Form}
 use Rattle.task_tables.specs.declared.forms.Form.TheVariants.{Commas, Tabs, Blanks}
-use Rattle.task_tables.specs.Fields.{is_blank, trimmed}
+use Rattle.numerals.specs.Numerals.{is_blank}
+use Rattle.task_tables.specs.Fields.{trimmed}
 
 -- a line feed or a carriage return
 abbrev pub is_line_end : ℕ → Bool

@@ -4,4 +4,5 @@ pub mod Columns
 pub mod Tasks
 pub mod Tables
 pub mod Misreads
+pub mod Explained
 pub mod Refusals

@@ -6,7 +6,8 @@ use Rattle.task_tables.specs.declared.errors.ReadError.{ReadError}
 use Rattle.task_tables.specs.declared.errors.ReadError.TheVariants.{Input, Memory, Misread}
 use Rattle.task_tables.specs.declared.tables.TaskTable.{TaskTable}
 use Rattle.task_tables.specs.Columns.{IsHeading}
-use Rattle.task_tables.specs.Tables.{IsReadFrom, IsTable, MayHold, table_columns, table_numbers}
+use Rattle.streams.specs.Held.{MayHold}
+use Rattle.task_tables.specs.Tables.{IsReadFrom, IsTable, table_columns, table_numbers}
 use Rattle.task_tables.specs.Tasks.{name_of, numbers_of}
 
 -- an error is a misread: neither the input failed nor memory ran out

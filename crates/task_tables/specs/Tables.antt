@@ -1,5 +1,5 @@
 -- A table of tasks, and the text that it is read from.
-use Rattle.std.specs.Prelude.{◌≡◌, ℕ, List, [], ◌∷◌, ◌++◌, map, filter, Option, None, Some}
+use Rattle.std.specs.Prelude.{◌≡◌, ℕ, ◌+◌, List, [], ◌∷◌, ◌++◌, map, filter, position, Option, None, Some, option_map}
 use Rattle.std.specs.String.{string_bytes}
 use Rattle.csv.specs.Reading.{AreRecords, strip_bom}
 use Rattle.csv.specs.declared.parser.State.TheVariants as st
@@ -7,19 +7,30 @@ use Rattle.rows.specs.declared.tasks.Numbers.{Numbers}
 use Rattle.task_tables.specs.declared.columns.Column.{Column}
 use Rattle.task_tables.specs.declared.forms.Form.{Form}
 use Rattle.task_tables.specs.declared.tables.TaskTable.{TaskTable}
-use Rattle.task_tables.specs.Columns.{IsHeading}
+use Rattle.task_tables.specs.Columns.{IsHeading, is_column}
 use Rattle.task_tables.specs.Forms.{config_of, fields_in, form_of, says}
 use Rattle.task_tables.specs.Tasks.{name_of, numbers_of}
+use Rattle.streams.specs.Held.{MayHold}
 
--- the columns of a table, the numbers of its tasks, and their names as bytes
+-- the columns of a table
 abbrev pub table_columns : TaskTable → List Column
 table_columns t = t.columns.items
 
+-- the numbers of its tasks, in their order
 abbrev pub table_numbers : TaskTable → List Numbers
 table_numbers t = t.numbers.items
 
+-- the names of its tasks, as bytes
 abbrev pub table_names : TaskTable → List (List ℕ)
 table_names t = map string_bytes t.names.items
+
+-- the lines on which they stand
+abbrev pub table_lines : TaskTable → List ℕ
+table_lines t = t.lines.items
+
+-- which field of a record stands under a column, counted from 1
+abbrev pub field_of : List Column → Column → Option ℕ
+field_of columns c = option_map (λ k. k + 1) (position (is_column c) columns)
 
 -- the task of a record stands behind those that a table had
 pub record Takes (old new : TaskTable) (fields : List (List ℕ)) : Type 0 where
@@ -52,11 +63,6 @@ pub record IsReadFrom (bytes : List ℕ) (t : TaskTable) : Type 0 where
   pub records : List (List (List ℕ))
   pub are_records : AreRecords (config_of (form_of bytes)) st.StartRecord (strip_bom bytes) records
   pub table : IsTable (rows_in (form_of bytes) records) t
-
--- bytes that a reader may hold: all that it is known to hold; any, where nothing is known of it
-abbrev pub MayHold : Option (List ℕ) → List ℕ → Type 0
-MayHold None bytes = Unit {0}
-MayHold (Some known) bytes = bytes ≡ known
 
 -- a table is read from all that a reader held
 pub record ReadsAll (held : Option (List ℕ)) (t : TaskTable) : Type 0 where

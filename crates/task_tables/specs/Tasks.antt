@@ -10,7 +10,7 @@ use Rattle.task_tables.specs.declared.columns.Column.TheVariants.{Name, Work, De
 use Rattle.task_tables.specs.declared.misreads.Expected.{Expected}
 use Rattle.task_tables.specs.declared.misreads.Expected.TheVariants.{Number, Text}
 use Rattle.task_tables.specs.Columns.{has_column, is_column}
-use Rattle.task_tables.specs.Fields.{is_digits, number_of}
+use Rattle.numerals.specs.Numerals.{is_digits, number_of}
 
 -- the field of a record under a column
 abbrev pub field_under : List Column → List (List ℕ) → Column → Option (List ℕ)
@@ -43,10 +43,11 @@ numbers_of columns fields =
     then all_numbers (number_under columns fields Work) (number_under columns fields Deadline) (number_under columns fields Period) (jitter_of columns fields)
     else None
 
--- the columns of the four numbers, and the fields that write them
+-- the columns of the four numbers
 abbrev pub four_columns : List Column
 four_columns = Work ∷ Deadline ∷ Period ∷ Jitter ∷ []
 
+-- the fields that write four numbers, in decimal
 abbrev pub four_fields : Numbers → List (List ℕ)
 four_fields n = decimal n.work ∷ decimal n.deadline ∷ decimal n.period ∷ decimal n.jitter ∷ []
 

@@ -1,12 +1,12 @@
 // The columns of a table, which its heading names.
-ghost use Rattle.std.specs.Prelude.{◌≡◌, ◌≢◌, MatchOption, position};
+ghost use Rattle.std.specs.Prelude.{◌≡◌, ◌≢◌, ◌<◌, IfSome, MatchOption, length, position};
 ghost use Rattle.task_tables.specs.declared.columns.Column.{Column};
 ghost use Rattle.task_tables.specs.Columns.{has_column, heading_of, is_column};
 
 use std::fmt;
 
 /// A column of a table, by the heading that names it.
-#[derive(Clone, Copy, PartialEq, Eq, Debug)]
+#[derive(Clone, Copy, Debug)]
 pub enum Column {
     /// What the task is called, which may be missing.
     Name,
@@ -67,7 +67,8 @@ pub(crate) fn has(columns: &[Column], column: Column) -> bool
 
 // Which of some columns is this one, counted from 0: the first.
 pub(crate) fn place_of(columns: &[Column], column: Column) -> Option<usize>
-    ensures { result ≡ position (is_column column) columns.now }
+    ensures place { result ≡ position (is_column column) columns.now }
+    ensures within { IfSome result (λ k. k < length columns.now) }
 {
     columns.iter().position(|other| other.is(column))
 }

@@ -1,6 +1,6 @@
 // The refusals of a table, told where the number stands that each is about.
-ghost use Rattle.std.specs.Prelude.{◌≡◌, Some, IfOk, IfSome, option_map};
-ghost use Rattle.task_tables.specs.Misreads.{column_of, column_told, refusal_told};
+ghost use Rattle.std.specs.Prelude.{◌≡◌, IfOk};
+ghost use Rattle.task_tables.specs.Explained.{IsExplained, IsSpotOf, complaint_of, told_of};
 
 use crate::columns::Column;
 use crate::misreads::{Expected, Misread, Refused, Spot};
@@ -9,7 +9,7 @@ use rows::{Fault, HORIZON, Numbers, Refusal};
 use std::alloc::{AllocError, Global};
 
 // Which number of a task a refusal is about, and what was expected of it.
-#[derive(Clone, Copy, PartialEq, Eq, Debug)]
+#[derive(Clone, Copy)]
 struct Complaint {
     column: Column,
     number: u32,
@@ -18,7 +18,7 @@ struct Complaint {
 
 // What a refusal says of the numbers of a task, where it is one of those about a task.
 fn complaint_of(refusal: Refusal, numbers: Numbers) -> Option<Complaint>
-    ensures { option_map (λ c. c.column) result ≡ column_of refusal }
+    ensures { result ≡ complaint_of refusal numbers }
 {
     let (column, number, expected) = match refusal {
         Refusal::IdleRow => (Column::Work, numbers.work, Expected::Work),
@@ -59,15 +59,14 @@ impl TaskTable {
     /// fault tells. Any other fault, and one at a rank that is not there, is told by its number and
     /// words alone.
     pub fn explain(&self, alloc: Global, fault: Fault) -> Result<Misread, AllocError>
-        ensures refusal { IfOk result (λ m. refusal_told m ≡ Some fault.refusal) }
-        ensures column { IfOk result (λ m.
-            IfSome (column_told m) (λ c. column_of fault.refusal ≡ Some c)) }
+        ensures { IfOk result (λ m. IsExplained self.now fault m) }
     {
-        let spot = match self.complaint_at(fault) {
-            Some((line, complaint)) => Some(self.spot(alloc, line, complaint)?),
-            None => None,
+        let (spot, rank) = match self.complaint_at(fault) {
+            Some((line, complaint)) => {
+                (Some(self.spot(alloc, line, complaint)?), Some(fault.at))
+            }
+            None => (None, None),
         };
-        let rank = if spot.is_some() { Some(fault.at) } else { None };
         Ok(Misread {
             spot,
             refused: Some(Refused {
@@ -79,24 +78,23 @@ impl TaskTable {
 
     // What a fault says of the task at its rank, and the line of that task.
     fn complaint_at(&self, fault: Fault) -> Option<(u64, Complaint)>
-        ensures { IfSome result (λ p. column_of fault.refusal ≡ Some p.1.column) }
+        ensures { result ≡ told_of self.now fault }
     {
-        let rank = usize::try_from(fault.at).ok()?;
-        let line = self.line(rank)?;
-        let numbers = self.numbers().get(rank.checked_sub(1)?)?;
+        let place = (fault.at as usize).checked_sub(1)?;
+        let line = self.line_at(place)?;
+        let numbers = self.numbers().get(place)?;
         Some((line, complaint_of(fault.refusal, *numbers)?))
     }
 
     // The number that a complaint is about, where it stands.
     fn spot(&self, alloc: Global, line: u64, complaint: Complaint) -> Result<Spot, AllocError>
-        ensures { IfOk result (λ spot. spot.column ≡ Some complaint.column) }
+        ensures { IfOk result (λ spot. IsSpotOf self.now line complaint spot) }
     {
-        let number = complaint.number;
         Ok(Spot {
             line,
-            field: self.place(line, complaint.column).map(|place| place.field),
+            field: self.field_of(complaint.column),
             column: Some(complaint.column),
-            stood: format!(in alloc; "{number}")?,
+            stood: complaint.number.to_string(alloc)?,
             expected: complaint.expected,
         })
     }

@@ -5,8 +5,9 @@ ghost use Rattle.csv.specs.Reading.{strip_bom};
 ghost use Rattle.csv.specs.Records.{fields_of};
 ghost use Rattle.task_tables.specs.Forms.{counts, decides, delimiter, fields_in, form_of, form_of_line, has_text, is_comment, is_line_end};
 
-use crate::fields::{is_blank, trimmed};
+use crate::fields::trimmed;
 use csv::ByteRecord;
+use numerals::is_blank;
 use std::alloc::{AllocError, Global};
 
 // What parts the fields of a line.

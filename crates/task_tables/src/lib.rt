@@ -19,6 +19,6 @@ mod words;
 
 pub use columns::Column;
 pub use errors::ReadError;
-pub use misreads::{Expected, Misread, Place};
+pub use misreads::{Expected, Misread, Refused, Spot};
 pub use reading::read;
 pub use tables::TaskTable;

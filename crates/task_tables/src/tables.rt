@@ -1,10 +1,10 @@
 // A table of tasks as it was read: numbers and names, and where each stood.
-ghost use Rattle.std.specs.Prelude.{◌≡◌, ◌≤◌, ◌-◌, [], length, vec_len, map, slice_index_or, true, IfErr, IfOk, OnOk, Some};
+ghost use Rattle.std.specs.Prelude.{◌≡◌, ◌≤◌, ◌-◌, ◌++◌, ◌∷◌, [], length, vec_len, map, slice_get, slice_index_or, true, IfErr, IfOk, OnOk, Some};
 ghost use Rattle.task_tables.specs.Misreads.{TellsLine};
 
 use crate::columns::{Column, place_of};
 use crate::errors::ReadError;
-use crate::misreads::{Expected, Misread, Place};
+use crate::misreads::{Expected, Misread};
 use crate::tasks::{misread, name, numbers};
 use rows::{MOST_ROWS, Numbers, Refusal};
 use std::alloc::{AllocError, Global};
@@ -22,13 +22,14 @@ pub struct TaskTable {
 
 impl TaskTable {
     ghost use Rattle.task_tables.specs.Refusals.{CannotTake, is_misread};
-    ghost use Rattle.task_tables.specs.Tables.{table_columns, table_names, table_numbers, Takes};
+    ghost use Rattle.task_tables.specs.Tables.{field_of, table_columns, table_lines, table_names, table_numbers, Takes};
 
     // A table without tasks, under a heading.
     pub(crate) fn new(alloc: Global, columns: Vec<Column>) -> TaskTable
         ensures columns { table_columns result ≡ columns.items }
         ensures numbers { table_numbers result ≡ [] }
         ensures names { table_names result ≡ [] }
+        ensures lines { table_lines result ≡ [] }
     {
         TaskTable {
             columns,
@@ -58,18 +59,18 @@ impl TaskTable {
         }
     }
 
-    // The line of the task at a rank, counted from 1.
-    pub(crate) fn line(&self, rank: usize) -> Option<u64> {
-        self.lines.get(rank.checked_sub(1)?).copied()
+    // The line of the task at a place, counted from 0.
+    pub(crate) fn line_at(&self, place: usize) -> Option<u64>
+        ensures { result ≡ slice_get (table_lines self.now) place }
+    {
+        self.lines.get(place).copied()
     }
 
-    // Which field of its record stands under a column.
-    pub(crate) fn place(&self, line: u64, column: Column) -> Option<Place> {
-        let index = place_of(self.columns.as_slice(), column)?;
-        Some(Place {
-            line,
-            field: index.saturating_add(1),
-        })
+    // Which field of a record stands under a column, counted from 1.
+    pub(crate) fn field_of(&self, column: Column) -> Option<usize>
+        ensures { result ≡ field_of (table_columns self.now) column }
+    {
+        Some(place_of(self.columns.as_slice(), column)? + 1)
     }
 
     // Takes the task of a record as the lowest rank.
@@ -79,6 +80,7 @@ impl TaskTable {
         line: u64,
         fields: &[&[u8]],
     ) -> Result<(), ReadError>
+        ensures line { OnOk result (table_lines self.new ≡ table_lines self.old ++ line ∷ []) }
         ensures task { OnOk result (Takes self.old self.new (map (λ f. f.now) fields.now)) }
         ensures refused { IfErr result (λ e.
             is_misread e ≡ true → CannotTake self.old (map (λ f. f.now) fields.now)) }

@@ -5,8 +5,8 @@ ghost use Rattle.task_tables.specs.Misreads.{TellsField};
 ghost use Rattle.task_tables.specs.Tasks.{expected_under, field_under, jitter_of, name_of, number_under, numbers_of, refusal_of};
 
 use crate::columns::{Column, has, place_of};
-use crate::fields::{is_digits, number};
 use crate::misreads::{Expected, Misread, Place};
+use numerals::{is_digits, number};
 use rows::{Numbers, Refusal};
 use std::alloc::{AllocError, Global};
 use std::str;

@@ -3,23 +3,36 @@
 use crate::misreads::{Expected, Misread, Refused, Spot};
 use std::fmt;
 
+impl Expected {
+    // The words for what was expected, and the number behind them, where there is one.
+    fn words(self) -> (&'static str, Option<u64>) {
+        match self {
+            Expected::HeadingLine => ("a heading with work, deadline and period", None),
+            Expected::Heading => ("name, work, deadline, period or jitter", None),
+            Expected::OtherHeading => ("each heading once", None),
+            Expected::Headings => ("work, deadline and period", None),
+            Expected::Fields(count) => ("", Some(count as u64)),
+            Expected::Tasks(most) => ("at most ", Some(most as u64)),
+            Expected::Number => ("a number from 0 to 4294967295", None),
+            Expected::Text => ("UTF-8", None),
+            Expected::Work => ("at least 1", None),
+            Expected::Window { deadline, .. } => ("the deadline ", Some(u64::from(deadline))),
+            Expected::Deadline { period } => ("at most the period ", Some(u64::from(period))),
+            Expected::Period { horizon } => ("at most ", Some(u64::from(horizon))),
+            Expected::Divisor => ("a divisor of the frame", None),
+        }
+    }
+}
+
 // What was expected, as docs/PROGRAMS.md writes it: "a number from 0 to 4294967295".
 impl fmt::Display for Expected {
     fn fmt<W: fmt::Write>(&self, f: &mut fmt::Formatter<W>) -> fmt::Result {
-        match self {
-            Expected::HeadingLine => write!(f, "a heading with work, deadline and period"),
-            Expected::Heading => write!(f, "name, work, deadline, period or jitter"),
-            Expected::OtherHeading => write!(f, "each heading once"),
-            Expected::Headings => write!(f, "work, deadline and period"),
-            Expected::Fields(count) => write!(f, "{count}"),
-            Expected::Tasks(most) => write!(f, "at most {most}"),
-            Expected::Number => write!(f, "a number from 0 to 4294967295"),
-            Expected::Text => write!(f, "UTF-8"),
-            Expected::Work => write!(f, "at least 1"),
-            Expected::Window { deadline, jitter } => write_window(f, *deadline, *jitter),
-            Expected::Deadline { period } => write!(f, "at most the period {period}"),
-            Expected::Period { horizon } => write!(f, "at most {horizon}"),
-            Expected::Divisor => write!(f, "a divisor of the frame"),
+        if let Expected::Window { deadline, jitter } = self {
+            return write_window(f, *deadline, *jitter);
+        }
+        match self.words() {
+            (words, Some(number)) => write!(f, "{words}{number}"),
+            (words, None) => f.write_str(words),
         }
     }
 }
