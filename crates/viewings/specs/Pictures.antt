@@ -1,3 +1,4 @@
+-- What is told of a picture.
 use Rattle.std.specs.Prelude.{◌≡◌, ◌++◌, ℕ, List, codes}
 
 -- the numbers stand behind the start of a description, and behind them how many points are drawn

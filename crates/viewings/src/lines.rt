@@ -7,7 +7,7 @@ use std::alloc::Global;
 use views::{Counting, Layout};
 
 /// What a command line asks, of files by their names.
-#[derive(Debug, Drop)]
+#[derive(Drop)]
 pub(crate) enum Line<'a> {
     File {
         table: &'a str,

@@ -4,7 +4,7 @@ ghost use Rattle.std.specs.Prelude.{◌≡◌, Some, codes};
 use anyhow::{Context, bail};
 
 /// The numbers that were named.
-#[derive(Clone, Copy, Debug, Default)]
+#[derive(Clone, Copy, Default)]
 pub(crate) struct Options {
     pub(crate) rank: Option<u32>,
     pub(crate) linear: Option<u32>,

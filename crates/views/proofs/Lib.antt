@@ -1,7 +1,11 @@
 mod Adds
 mod Cells
+mod Compared
+mod ComparedRows
+mod Counts
+mod Failing
 mod Held
 mod Puts
 mod Ranks
-mod Sheeted
+mod Refused
 mod Told

@@ -1,6 +1,5 @@
 -- What is told of rows, one after the other.
 use Rattle.std.proofs.Common.{◌≡◌, ℕ, zero, suc, ◌+◌, ◌<◌, ◌≤◌, List, [], ◌∷◌, ◌++◌, length, map, take, Some, None, Option, sym, ap, ap₂, ◌∙◌, append_assoc, subst, arith}
-use Rattle.std.proofs.Math.Seq.{take-length}
 use Rattle.std.proofs.lemmas.List.{map-append}
 use Rattle.std.specs.Option.{option_map, option_map_or, unwrap_or}
 use Rattle.rows.specs.declared.tasks.Numbers.{Numbers}
@@ -10,7 +9,11 @@ use Rattle.rows.specs.Lists.{at_rank}
 use Rattle.verdicts.specs.declared.verdicts.Finding.{Finding}
 use Rattle.verdicts.specs.Found.{Found, tells}
 use Rattle.leaves.specs.Contents.{Contents}
-use Rattle.views.specs.Ranked.{told_from, told_rows, told_up_to, StandsAt}
+use Rattle.views.specs.Ranked.{told_from, StandsAt}
+
+-- what is told of the rows of a leaf up to a rank
+abbrev pub told_up_to : {X : Type 0} → (ℕ → Numbers → Found → X) → ℕ → Contents → List X
+told_up_to tell rank c = told_from tell 1 (take rank c.rows) (take rank c.findings)
 
 -- nothing is no thing
 pub none_is_some : {X : Type 0} (x : X) → Some x ≡ None → ⊥
@@ -80,10 +83,3 @@ pub none_within : (i : ℕ) (c : Contents) (result : Option (Row × Finding)) �
 none_within i c result is stands within =
     let past : length c.rows < i + 1 = subst (λ o. StandsAt (i + 1) c o) is stands (omega arith) in
     omega (arith, past, within)
-
--- up to the last rank all is told
-pub told_all : {X : Type 0} (tell : ℕ → Numbers → Found → X) (n : ℕ) (c : Contents) → n ≡ length c.rows → length c.findings ≡ length c.rows → told_up_to tell n c ≡ told_rows tell c
-told_all tell n c all even =
-    ap₂ (told_from tell 1)
-    (ap (λ m. take m c.rows) all ∙ take-length c.rows)
-    (ap (λ m. take m c.findings) (all ∙ sym even) ∙ take-length c.findings)

@@ -1,6 +1,5 @@
 -- What a leaf adds to those that are shown.
-use Rattle.std.specs.Prelude.{◌≡◌, ℕ, Bool, true, false, List, [], ◌∷◌, ◌++◌, map, Option}
-use Rattle.std.specs.Io.KnownBytes.{Appends}
+use Rattle.std.specs.Prelude.{◌≡◌, ℕ, Bool, true, false, List, [], ◌∷◌, ◌++◌, map, Option, codes}
 use Rattle.csv.specs.Reading.{AreRecords, default_config}
 use Rattle.csv.specs.Writing.{read_back}
 use Rattle.csv.specs.declared.parser.State.TheVariants as st
@@ -9,52 +8,89 @@ use Rattle.rows.specs.Refusals.{number, words}
 use Rattle.rows.specs.declared.refusals.Refusal.{Refusal}
 use Rattle.leaves.specs.Contents.{Contents}
 use Rattle.reading.specs.Whole.{Fits}
-use Rattle.task_tables.specs.Tables.{MayHold}
+use Rattle.streams.specs.Held.{MayHold}
 use Rattle.grids.specs.Cells.{Headings, Rows}
-use Rattle.grid_csv.specs.Fields.{records_of}
+use Rattle.grid_csv.specs.Fields.{headings_of, records_of}
+use Rattle.grid_json.specs.Reads.{IsTextOf}
 use Rattle.views.specs.declared.layouts.Layout.{Layout}
 use Rattle.views.specs.declared.layouts.Layout.TheVariants.{Aligned, Csv, Json}
 use Rattle.views.specs.declared.showing.Show.{Show}
 use Rattle.views.specs.Cells.{damage_fields}
 use Rattle.views.specs.Ranked.{field_rows, leaf_records}
+use Rattle.views.specs.Texts.{IsLeafText, damage_text, parted}
 
 -- the layout in which leaves are shown
 abbrev pub layout_of : Show → Layout
 layout_of s = s.layout
 
+-- the text that is shown to people
+abbrev pub shown_text : Show → List ℕ
+shown_text s = s.text.items
+
 -- the records that are shown, as programs read them
 abbrev pub shown_records : Show → List (List (List ℕ))
 shown_records s = field_rows s.records.rows.items
 
--- records grow by more in the layouts for programs, and stay as they are in the one for people
-abbrev pub GrowBy : Layout → List (List (List ℕ)) → Show → Show → Type 0
-GrowBy Aligned more old new = shown_records new ≡ shown_records old
-GrowBy Csv more old new = shown_records new ≡ shown_records old ++ more
-GrowBy Json more old new = shown_records new ≡ shown_records old ++ more
+-- their headings
+abbrev pub shown_headings : Show → List (List ℕ)
+shown_headings s = headings_of s.records.headings.items
 
--- bytes that are a leaf add the records of what it holds; others add one, of the refusal that fits, its place and
+-- the names of the fields of a record, in order
+abbrev pub field_names : List (List ℕ)
+field_names =
+    codes "leaf" ∷ codes "refused_number" ∷ codes "refused_words" ∷ codes "refused_at_byte" ∷ codes "bytes_around_hex"
+    ∷ codes "bound" ∷ codes "accuracy" ∷ codes "frame_ticks"
+    ∷ codes "rank" ∷ codes "work_ticks" ∷ codes "deadline_ticks" ∷ codes "period_ticks" ∷ codes "jitter_ticks"
+    ∷ codes "meets" ∷ codes "first_rest_ticks" ∷ codes "response_ticks" ∷ codes "points_tested" ∷ []
+
+-- the layout and the headings stay
+pub record KeepsSetup (old new : Show) : Type 0 where
+  pub layout : layout_of new ≡ layout_of old
+  pub headings : new.records.headings ≡ old.records.headings
+
+-- the text for people grows by another, with an empty line between them, and the records stay
+pub record GrowsText (IsText : List ℕ → Type 0) (old new : Show) : Type 0 where
+  pub bytes : List ℕ
+  pub is_text : IsText bytes
+  pub text : shown_text new ≡ parted (shown_text old) ++ bytes
+  pub records : shown_records new ≡ shown_records old
+
+-- the records for programs grow by more, and the text stays
+pub record GrowsRecords (more : List (List (List ℕ))) (old new : Show) : Type 0 where
+  pub records : shown_records new ≡ shown_records old ++ more
+  pub text : shown_text new ≡ shown_text old
+
+-- what is shown grows in the layout that it has
+abbrev pub GrowBy : Layout → (List ℕ → Type 0) → List (List (List ℕ)) → Show → Show → Type 0
+GrowBy Aligned IsText more old new = GrowsText IsText old new
+GrowBy Csv IsText more old new = GrowsRecords more old new
+GrowBy Json IsText more old new = GrowsRecords more old new
+
+-- a text is the line that tells a damaged leaf
+abbrev pub IsDamageLine : List ℕ → Refusal → ℕ → List ℕ → List ℕ → Type 0
+IsDamageLine name refusal at around text = text ≡ damage_text name refusal at around ++ codes "\n"
+
+-- bytes that are a leaf add what it holds, as a text or as records; others add the refusal that fits, its place and
 -- bytes around it
 abbrev pub Adds : Bool → List ℕ → List ℕ → Show → Show → Type 0
 Adds true name bytes old new =
-    (c : Contents) × Fits bytes (gives c) × GrowBy (layout_of old) (leaf_records name c) old new
+    (c : Contents) × Fits bytes (gives c) × GrowBy (layout_of old) (IsLeafText name c) (leaf_records name c) old new
 Adds false name bytes old new =
     (refusal : Refusal) × (at : ℕ) × (around : List ℕ) × Fits bytes (refuses (number refusal) at)
-    × GrowBy (layout_of old) (damage_fields name (number refusal) (words refusal) at around ∷ []) old new
+    × GrowBy (layout_of old) (IsDamageLine name refusal at around) (damage_fields name (number refusal) (words refusal) at around ∷ []) old new
 
--- so it is with all that a reader held; the layout stays
+-- so it is with all that a reader held
 pub record AddsHeld (is_leaf : Bool) (name : List ℕ) (held : Option (List ℕ)) (old new : Show) : Type 0 where
   pub bytes : List ℕ
   pub all : MayHold held bytes
   pub adds : Adds is_leaf name bytes old new
-  pub layout : layout_of new ≡ layout_of old
 
 -- a text reads back as the headings and the records
 abbrev pub IsCsvOf : Headings → Rows → List ℕ → Type 0
 IsCsvOf headings rows text = AreRecords default_config st.StartRecord text (map read_back (records_of headings rows))
 
--- records that are shown as CSV were written: what a writer holds grew by their text
-abbrev pub WritesCsv : Layout → Show → Option (List ℕ) → Option (List ℕ) → Type 0
-WritesCsv Csv show old new =
-    (text : List ℕ) × IsCsvOf show.records.headings.items show.records.rows.items text × Appends old new text
-WritesCsv Aligned show old new = Unit {0}
-WritesCsv Json show old new = Unit {0}
+-- bytes are what is shown: in the layout for people the text, as CSV and as JSON the records
+abbrev pub IsShown : Layout → Show → List ℕ → Type 0
+IsShown Aligned show bytes = bytes ≡ shown_text show
+IsShown Csv show bytes = IsCsvOf show.records.headings.items show.records.rows.items bytes
+IsShown Json show bytes = IsTextOf bytes show.records.headings.items show.records.rows.items

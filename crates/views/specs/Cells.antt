@@ -1,8 +1,10 @@
 -- What rows and findings tell, as texts for people and as fields for programs.
-use Rattle.std.specs.Prelude.{ℕ, ◌+◌, ◌-◌, ◌==◌, List, [], ◌∷◌, ◌++◌, Some, None, Option, decimal, codes, if◌then◌else◌}
+use Rattle.std.specs.Prelude.{ℕ, ◌+◌, ◌-◌, ◌==◌, List, [], ◌∷◌, ◌++◌, Option, decimal, codes, if◌then◌else◌}
 use Rattle.std.specs.Option.{option_map, option_map_or, is_some}
 use Rattle.rows.specs.declared.tasks.Numbers.{Numbers}
 use Rattle.verdicts.specs.Found.{Found}
+use Rattle.brackets.specs.Counting.{gap}
+use Rattle.task_tables.specs.Tasks.{four_fields}
 use Rattle.leaves.specs.declared.entries.HeadingNumbers.{HeadingNumbers}
 use Rattle.grids.specs.declared.cells.Cell.{Cell}
 use Rattle.grids.specs.declared.cells.Cell.TheVariants.{Nothing, Truth, Number}
@@ -32,16 +34,6 @@ response_of n f = option_map (λ rest. rest + n.jitter) f.rest
 abbrev pub slack_of : Numbers → Found → Option ℕ
 slack_of n f = option_map (λ response. n.deadline - response) (response_of n f)
 
--- how much later the second of two first rests is than the first, where there are both
-abbrev pub gap_of : Option ℕ → Option ℕ → Option ℕ
-gap_of (Some first) (Some second) = Some (second - first)
-gap_of (Some first) None = None
-gap_of None second = None
-
--- the four numbers of a row: work, deadline, period and jitter
-abbrev pub numbers_texts : Numbers → List (List ℕ)
-numbers_texts n = decimal n.work ∷ decimal n.deadline ∷ decimal n.period ∷ decimal n.jitter ∷ []
-
 -- the same as cells
 abbrev pub number_cells : Numbers → List Cell
 number_cells n = Number n.work ∷ Number n.deadline ∷ Number n.period ∷ Number n.jitter ∷ []
@@ -49,15 +41,15 @@ number_cells n = Number n.work ∷ Number n.deadline ∷ Number n.period ∷ Num
 -- a row of a leaf as a person reads it: its rank and numbers, the first rest, the response and the points tested
 abbrev pub leaf_texts : ℕ → Numbers → Found → List (List ℕ)
 leaf_texts rank n f =
-    decimal rank ∷ (numbers_texts n ++ rest_text f.rest ∷ number_text (response_of n f) ∷ decimal f.points ∷ [])
+    decimal rank ∷ (four_fields n ++ rest_text f.rest ∷ number_text (response_of n f) ∷ decimal f.points ∷ [])
 
 -- a row that was counted twice as a person reads it: its rank, name and numbers, the first rest in exact steps, the
 -- response and the slack, the first rest by the linear tail and how much later it is, and the points tested by each count
 abbrev pub counted_texts : ℕ → List ℕ → Numbers → Found → Found → List (List ℕ)
 counted_texts rank name n exact bounded =
-    decimal rank ∷ shown_text name ∷ (numbers_texts n
+    decimal rank ∷ shown_text name ∷ (four_fields n
     ++ rest_text exact.rest ∷ number_text (response_of n exact) ∷ number_text (slack_of n exact)
-    ∷ rest_text bounded.rest ∷ number_text (gap_of exact.rest bounded.rest)
+    ∷ rest_text bounded.rest ∷ number_text (gap exact.rest bounded.rest)
     ∷ decimal exact.points ∷ decimal bounded.points ∷ [])
 
 -- what a program is told of a heading: the name of the leaf, no refusal, the words for the bound, the accuracy of a
@@ -73,7 +65,7 @@ heading_fields name h =
 -- response and the points tested
 abbrev pub row_fields : ℕ → Numbers → Found → List (List ℕ)
 row_fields rank n f =
-    decimal rank ∷ (numbers_texts n
+    decimal rank ∷ (four_fields n
     ++ (if is_some f.rest then codes "true" else codes "false")
     ∷ number_field f.rest ∷ number_field (response_of n f) ∷ decimal f.points ∷ [])
 

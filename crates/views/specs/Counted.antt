@@ -1,13 +1,17 @@
 -- A task table that was read and counted, and its leaves.
-use Rattle.std.specs.Prelude.{◌≡◌, ℕ, List, map, Some, Option}
+use Rattle.std.specs.Prelude.{◌≡◌, ℕ, ◌<◌, ◌≤◌, ◌⊎◌, ◌-◌, List, [], ◌∷◌, ◌++◌, length, map, take, Some, Option, slice_get, slice_index_or}
 use Rattle.rows.specs.Answers.{Passes}
 use Rattle.rows.specs.Judging.{plain, rows_of}
+use Rattle.verdicts.specs.Found.{tells}
 use Rattle.leaves.specs.Contents.{Contents, encoding}
 use Rattle.filings.specs.Checks.{filing_checks, frame_for}
 use Rattle.filings.specs.Filings.{Filed, filed, heading_of, exact_findings, bounded_findings, IsLeafOf}
 use Rattle.task_tables.specs.declared.tables.TaskTable.{TaskTable}
-use Rattle.task_tables.specs.Tables.{table_numbers}
+use Rattle.task_tables.specs.Tables.{ReadsAll, table_names, table_numbers}
+use Rattle.plots.specs.declared.drawings.Drawing.{Drawing}
 use Rattle.views.specs.declared.counted.Counted.{Counted}
+use Rattle.views.specs.declared.troubles.Trouble.{Trouble}
+use Rattle.views.specs.declared.troubles.Trouble.TheVariants as trouble
 
 -- the table that was read
 abbrev pub table_of : Counted → TaskTable
@@ -35,3 +39,31 @@ pub record IsLinearLeaf (f : Filed) (bytes : List ℕ) : Type 0 where
   pub contents : Contents
   pub survey : IsLeafOf (heading_of f.frame 1 f.accuracy) f (bounded_findings f) contents
   pub encoded : bytes ≡ encoding contents
+
+-- a table has a row of a rank
+abbrev pub IsRank : ℕ → Filed → Type 0
+IsRank rank f = (1 ≤ rank) × (rank ≤ length f.rows)
+
+-- a table that a reader held was counted, and has a row of the rank
+pub record HasRank (held : Option (List ℕ)) (frame : Option ℕ) (accuracy rank : ℕ) : Type 0 where
+  pub table : TaskTable
+  pub filed : Filed
+  pub read : ReadsAll held table
+  pub counted : IsCountOf frame accuracy table filed
+  pub is_rank : IsRank rank filed
+
+-- so many rows are told, where a table has none of a rank
+abbrev pub TellsRank : ℕ → Filed → Trouble → Type 0
+TellsRank rank f (trouble.Rank rows) = (rows ≡ length f.rows) × ((rank ≡ 0) ⊎ (length f.rows < rank))
+TellsRank rank f _ = ⊥
+
+-- a drawing is of the row of a rank of a table that was counted: its name, its frame, the rows above it, and what each
+-- count found
+pub record IsDrawnOf (rank : ℕ) (c : Counted) (drawing : Drawing) : Type 0 where
+  pub is_rank : IsRank rank c.filing
+  pub named : drawing.name.now ≡ slice_index_or (table_names c.table) (rank - 1) []
+  pub ranked : drawing.rank ≡ rank
+  pub frame : drawing.frame ≡ c.filing.frame
+  pub above : take rank c.filing.rows ≡ drawing.above.now ++ drawing.row.now ∷ []
+  pub exact : slice_get (exact_findings c.filing) (rank - 1) ≡ Some (tells drawing.exact)
+  pub bounded : slice_get (bounded_findings c.filing) (rank - 1) ≡ Some (tells drawing.bounded)

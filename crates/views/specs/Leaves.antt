@@ -1,12 +1,13 @@
 -- What is read as leaves.
-use Rattle.std.specs.Prelude.{◌≡◌, ℕ, ◌+◌, ◌<◌, Bool, true, false, List, Option, map}
+use Rattle.std.specs.Prelude.{◌≡◌, ℕ, ◌+◌, ◌<◌, Bool, true, false, List, [], Option, map, slice_index_or}
+use Rattle.std.specs.Borrow.{Bor}
 use Rattle.std.specs.Option.{option_map}
 use Rattle.rows.specs.Answers.{gives, refuses}
 use Rattle.rows.specs.Judging.{plain}
 use Rattle.rows.specs.Lists.{at_rank}
 use Rattle.leaves.specs.Contents.{Contents}
 use Rattle.reading.specs.Whole.{Fits}
-use Rattle.task_tables.specs.Tables.{MayHold}
+use Rattle.streams.specs.Held.{MayHold}
 
 -- bytes are a leaf, or they are refused
 abbrev pub IsLeaf : Bool → List ℕ → Type 0
@@ -19,6 +20,10 @@ pub record HeldLeaf (held : Option (List ℕ)) (is_leaf : Bool) : Type 0 where
   pub all : MayHold held bytes
   pub leaf : IsLeaf is_leaf bytes
 
+-- the name at a place among some
+abbrev pub name_of : List (Bor (List ℕ)) → ℕ → List ℕ
+name_of names i = slice_index_or (map (λ name. name.now) names) i []
+
 -- contents have one table: one frame, and the same rows in the same order
 pub record HaveOneTable (c d : Contents) : Type 0 where
   pub frame : c.heading.frame ≡ d.heading.frame
@@ -28,8 +33,8 @@ pub record HaveOneTable (c d : Contents) : Type 0 where
 abbrev pub AreSameUpTo : ℕ → Contents → Contents → Type 0
 AreSameUpTo n c d = (k : ℕ) → k < n → option_map plain (at_rank (k + 1) c.rows) ≡ option_map plain (at_rank (k + 1) d.rows)
 
--- what two readers held are leaves of one table
-pub record HeldOneTable (first second : Option (List ℕ)) : Type 0 where
+-- what two readers held are leaves whose contents are related so
+pub record HeldBoth (P : Contents → Contents → Type 0) (first second : Option (List ℕ)) : Type 0 where
   pub one : List ℕ
   pub other : List ℕ
   pub all_one : MayHold first one
@@ -38,4 +43,4 @@ pub record HeldOneTable (first second : Option (List ℕ)) : Type 0 where
   pub contents_other : Contents
   pub fits_one : Fits one (gives contents_one)
   pub fits_other : Fits other (gives contents_other)
-  pub table : HaveOneTable contents_one contents_other
+  pub related : P contents_one contents_other

@@ -1,6 +1,11 @@
-pub mod Added
 pub mod Cells
+pub mod Ranked
+pub mod Texts
 pub mod Counted
+pub mod Printed
 pub mod Sheeted
 pub mod Leaves
-pub mod Ranked
+pub mod Differences
+pub mod Added
+pub mod Compared
+pub mod Troubles

@@ -1,5 +1,5 @@
 -- What is told of the rows of a leaf, rank by rank.
-use Rattle.std.specs.Prelude.{◌≡◌, ℕ, suc, ◌<◌, ◌≤◌, ◌==◌, List, [], ◌∷◌, length, map, take, Some, None, Option, if◌then◌else◌}
+use Rattle.std.specs.Prelude.{◌≡◌, ℕ, suc, ◌<◌, ◌≤◌, ◌==◌, List, [], ◌∷◌, length, map, Some, None, Option, if◌then◌else◌}
 use Rattle.std.specs.Option.{option_map}
 use Rattle.rows.specs.declared.tasks.Numbers.{Numbers}
 use Rattle.rows.specs.declared.tasks.Row.{Row}
@@ -31,10 +31,6 @@ told_from tell rank (r ∷ rs) (f ∷ fs) = tell rank (plain r) (tells f) ∷ to
 -- what is told of the rows of a leaf
 abbrev pub told_rows : {X : Type 0} → (ℕ → Numbers → Found → X) → Contents → List X
 told_rows tell c = told_from tell 1 c.rows c.findings
-
--- the same up to a rank
-abbrev pub told_up_to : {X : Type 0} → (ℕ → Numbers → Found → X) → ℕ → Contents → List X
-told_up_to tell rank c = told_from tell 1 (take rank c.rows) (take rank c.findings)
 
 -- a row and a finding are those of a rank; where there are none, the rank is past the last, or 0
 abbrev pub StandsAt : ℕ → Contents → Option (Row × Finding) → Type 0

@@ -1,13 +1,10 @@
 -- The sheet of a task table that was read.
-use Rattle.std.specs.Prelude.{◌≡◌, ℕ, Bool, true, false, List, Option}
+use Rattle.std.specs.Prelude.{◌≡◌, ℕ, List, Option}
 use Rattle.sheets.specs.Tables.{Table, sheet_bytes}
 use Rattle.filings.specs.Checks.{frame_for}
 use Rattle.filings.specs.Sheets.{heading_for, IsTableOf}
 use Rattle.task_tables.specs.declared.tables.TaskTable.{TaskTable}
 use Rattle.task_tables.specs.Tables.{table_numbers, ReadsAll}
-use Rattle.std.specs.Io.KnownBytes.{Appends}
-use Rattle.views.specs.declared.troubles.Trouble.{Trouble}
-use Rattle.views.specs.declared.troubles.Trouble.TheVariants as trouble
 
 -- some bytes are the sheet of a table: its tasks are the rows, in their order, below a heading of the frame that is named,
 -- or else the common one, and of the linear tail of the accuracy that is named, or else exact steps
@@ -16,15 +13,8 @@ pub record IsSheetOf (frame accuracy : Option ℕ) (table : TaskTable) (bytes : 
   pub tasks : IsTableOf (heading_for (frame_for frame (table_numbers table)) accuracy) (table_numbers table) sheet
   pub encoded : bytes ≡ sheet_bytes sheet
 
--- the sheet of the table that a reader held was written
-pub record WritesSheet (frame accuracy : Option ℕ) (held old new : Option (List ℕ)) : Type 0 where
+-- they are the sheet of the table that a reader held
+pub record IsSheetFor (frame accuracy : Option ℕ) (held : Option (List ℕ)) (bytes : List ℕ) : Type 0 where
   pub table : TaskTable
   pub read : ReadsAll held table
-  pub bytes : List ℕ
   pub sheet : IsSheetOf frame accuracy table bytes
-  pub written : Appends old new bytes
-
--- it was writing that failed, and not what came before
-abbrev pub is_output : Trouble → Bool
-is_output (trouble.Output e) = true
-is_output _ = false

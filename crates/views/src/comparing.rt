@@ -1,12 +1,16 @@
 // Two leaves of one table beside each other.
-ghost use Rattle.std.specs.Prelude.{◌≡◌, false, IfOk, OnOk, IfErr};
-ghost use Rattle.std.specs.Io.KnownBytes.{Keeps};
-ghost use Rattle.rows.specs.Answers.{gives};
+ghost use Rattle.std.specs.Prelude.{◌≡◌, ◌++◌, length, map, codes, string_bytes, Some, IfOk, OnOk, IfErr, if◌then◌else◌};
+ghost use Rattle.std.specs.Option.{option_map};
+ghost use Rattle.rows.specs.Judging.{plain};
+ghost use Rattle.verdicts.specs.Found.{tells, verdict_rest};
 ghost use Rattle.leaves.specs.Contents.{Contents};
 ghost use Rattle.reading.specs.Leaves.{Holds};
-ghost use Rattle.reading.specs.Whole.{Fits};
-ghost use Rattle.views.specs.Leaves.{HeldOneTable};
-ghost use Rattle.views.specs.Sheeted.{is_output};
+ghost use Rattle.grids.specs.Shown.{shown_of};
+ghost use Rattle.grid_csv.specs.Fields.{headings_of};
+ghost use Rattle.views.specs.Compared.{AreCompared, IsComparison, IsComparisonOf, compared_columns, compared_head, compared_of, compared_texts, do_part, first_compared, frame_line, later_text, named_line};
+ghost use Rattle.views.specs.Leaves.{name_of};
+ghost use Rattle.views.specs.Ranked.{shown_rows};
+ghost use Rattle.views.specs.Troubles.{Fails, IsTroubleOf, TellsDamage, TellsDifference, Writes, of_leaves};
 
 use crate::bound_words::BoundWords;
 use crate::damage::Damage;
@@ -17,6 +21,7 @@ use crate::outputs::write_out;
 use crate::troubles::Trouble;
 use grids::{Cell, Grid, aligned};
 use reading::{Leaf, read};
+use rows::{Fault, Row};
 use std::alloc::{AllocError, Global};
 use std::io::{Read, Write};
 use verdicts::{Finding, Verdict};
@@ -39,7 +44,8 @@ const COLUMNS: [&str; 11] = [
 /// Sets two leaves of one table beside each other, row by row, and says where their verdicts part
 /// (docs/PROGRAMS.md, `yabreznul compare`). The names are those of the leaves.
 ///
-/// A damaged leaf is refused, and so are leaves of different tables; nothing is written then.
+/// A damaged leaf is refused, the first before the second, and so are leaves of different tables; nothing is
+/// written then.
 pub fn compare<A: Read, B: Read, W: Write>(
     alloc: Global,
     names: [&str; 2],
@@ -47,123 +53,273 @@ pub fn compare<A: Read, B: Read, W: Write>(
     second: &mut B,
     writer: &mut W,
 ) -> Result<(), Trouble>
-    ensures table { OnOk result (HeldOneTable (A.remaining first.old) (B.remaining second.old)) }
-    ensures kept { IfErr result (λ t. is_output t ≡ false →
-        Keeps (W.contents writer.old) (W.contents writer.new)) }
+    ensures written { OnOk result (Writes
+        (IsComparisonOf (name_of names.entry 0) (A.remaining first.old) (name_of names.entry 1) (B.remaining second.old))
+        (W.contents writer.old) (W.contents writer.new)) }
+    ensures failed { IfErr result (Fails
+        (IsComparisonOf (name_of names.entry 0) (A.remaining first.old) (name_of names.entry 1) (B.remaining second.old))
+        (of_leaves (name_of names.entry 0) (A.remaining first.old) (name_of names.entry 1) (B.remaining second.old))
+        (W.contents writer.old) (W.contents writer.new)) }
 {
-    let [first_name, second_name] = names;
-    let first_bytes = read_whole(alloc, first)?;
-    let second_bytes = read_whole(alloc, second)?;
-    let one = named_leaf(alloc, first_name, &first_bytes)?;
-    let other = named_leaf(alloc, second_name, &second_bytes)?;
-    if let Some(difference) = first_difference(&one, &other) {
-        return Err(Trouble::Different(difference));
+    match comparison(alloc, names, first, second) {
+        Ok(text) => write_out(writer, &text),
+        Err(trouble) => Err(trouble),
     }
-    let text = compared(alloc, (first_name, &one), (second_name, &other))?;
-    write_out(writer, &text)?;
-    Ok(())
 }
 
-// The leaf that bytes of some name are.
-fn named_leaf<'a>(alloc: Global, name: &str, bytes: &'a [u8]) -> Result<Leaf<'a>, Trouble>
-    ensures read { IfOk result (λ leaf. (c : Contents) × Fits bytes.now (gives c) × Holds leaf c) }
-    ensures failed { IfErr result (λ t. is_output t ≡ false) }
+// What is told of what two readers hold.
+fn comparison<A: Read, B: Read>(
+    alloc: Global,
+    names: [&str; 2],
+    first: &mut A,
+    second: &mut B,
+) -> Result<Vec<u8>, Trouble>
+    ensures text { IfOk result (λ text. IsComparisonOf (name_of names.entry 0) (A.remaining first.old)
+        (name_of names.entry 1) (B.remaining second.old) text.items) }
+    ensures failed { IfErr result (IsTroubleOf
+        (of_leaves (name_of names.entry 0) (A.remaining first.old) (name_of names.entry 1) (B.remaining second.old))) }
 {
-    match read(bytes) {
-        Ok(leaf) => Ok(leaf),
-        Err(fault) => Err(Trouble::Damaged(Damage::of(alloc, name, bytes, fault)?)),
+    let first_bytes = read_whole(alloc, first)?;
+    let second_bytes = read_whole(alloc, second)?;
+    compare_bytes(alloc, names[0], &first_bytes, names[1], &second_bytes)
+}
+
+// What is told of bytes of two names.
+fn compare_bytes(
+    alloc: Global,
+    first_name: &str,
+    first: &[u8],
+    second_name: &str,
+    second: &[u8],
+) -> Result<Vec<u8>, Trouble>
+    ensures text { IfOk result (λ text.
+        IsComparisonOf first_name.now (Some first.now) second_name.now (Some second.now) text.items) }
+    ensures failed { IfErr result (IsTroubleOf
+        (of_leaves first_name.now (Some first.now) second_name.now (Some second.now))) }
+{
+    match read(first) {
+        Ok(one) => match read(second) {
+            Ok(other) => compare_leaves(alloc, first_name, &one, second_name, &other),
+            Err(fault) => Err(damaged(alloc, second_name, second, fault)),
+        },
+        Err(fault) => Err(damaged(alloc, first_name, first, fault)),
+    }
+}
+
+// What is told of a leaf that is damaged.
+fn damaged(alloc: Global, name: &str, bytes: &[u8], fault: Fault) -> Trouble
+    ensures { TellsDamage name.now fault result }
+{
+    match Damage::of(alloc, name, bytes, fault) {
+        Ok(damage) => Trouble::Damaged(damage),
+        Err(error) => Trouble::Memory(error),
+    }
+}
+
+// What is told of two leaves.
+fn compare_leaves(
+    alloc: Global,
+    first_name: &str,
+    first: &Leaf<'_>,
+    second_name: &str,
+    second: &Leaf<'_>,
+) -> Result<Vec<u8>, Trouble>
+    ensures text { IfOk result (λ text. (c d : Contents) → Holds first.now c → Holds second.now d →
+        AreCompared first_name.now second_name.now text.items c d) }
+    ensures failed { IfErr result (λ t. (c d : Contents) → Holds first.now c → Holds second.now d →
+        TellsDifference c d t) }
+{
+    match first_difference(first, second) {
+        Some(difference) => Err(Trouble::Different(difference)),
+        None => match compared(alloc, first_name, first, second_name, second) {
+            Ok(text) => Ok(text),
+            Err(error) => Err(Trouble::Memory(error)),
+        },
     }
 }
 
 // Two leaves of one table, as text.
 fn compared(
     alloc: Global,
-    first: (&str, &Leaf<'_>),
-    second: (&str, &Leaf<'_>),
-) -> Result<Vec<u8>, AllocError> {
-    let mut text = heads(alloc, first, second)?;
-    let mut table = Grid::new(alloc, &COLUMNS)?;
-    let mut parted = Vec::new(alloc);
-    for i in 0..first.1.len() {
-        let rank = i + 1;
-        if compare_rank(alloc, rank, first.1, second.1, &mut table)? {
-            parted.push(rank)?;
-        }
-    }
+    first_name: &str,
+    first: &Leaf<'_>,
+    second_name: &str,
+    second: &Leaf<'_>,
+) -> Result<Vec<u8>, AllocError>
+    ensures { IfOk result (λ text. (c d : Contents) → Holds first.now c → Holds second.now d →
+        IsComparison first_name.now second_name.now c d text.items) }
+{
+    let table = compared_table(alloc, first, second)?;
+    let ranks = parted_ranks(alloc, first, second)?;
+    let mut text = heads(alloc, first_name, first, second_name, second)?.into_bytes();
     text.extend_from_slice(&aligned(alloc, &table)?)?;
-    text.extend_from_slice(parting(alloc, &parted)?.as_bytes())?;
+    text.extend_from_slice(parting(alloc, &ranks)?.as_bytes())?;
     Ok(text)
 }
 
 // What stands above a comparison: both leaves by name and bound, then the frame and the number of rows.
 fn heads(
     alloc: Global,
-    first: (&str, &Leaf<'_>),
-    second: (&str, &Leaf<'_>),
-) -> Result<Vec<u8>, AllocError> {
-    let (a, b) = (first.1.heading(), second.1.heading());
-    let head = format!(in alloc;
-        "A: {}, {}\nB: {}, {}\nframe {}, {} rows\n",
-        first.0,
-        BoundWords(a.bound),
-        second.0,
-        BoundWords(b.bound),
-        a.frame,
-        first.1.len()
-    )?;
-    Vec::from_slice(alloc, head.as_bytes())
+    first_name: &str,
+    first: &Leaf<'_>,
+    second_name: &str,
+    second: &Leaf<'_>,
+) -> Result<String, AllocError>
+    ensures { IfOk result (λ text. (c d : Contents) → Holds first.now c → Holds second.now d →
+        string_bytes text ≡ compared_head first_name.now second_name.now c d) }
+{
+    let one = named_line(alloc, "A: ", first_name, first)?;
+    let other = named_line(alloc, "B: ", second_name, second)?;
+    let below = frame_line(alloc, first)?;
+    format!(in alloc; "{one}{other}{below}")
 }
 
-// Puts the row of a rank with both findings into the table. Answers whether the verdicts part.
-fn compare_rank(
+// The line of a leaf: a mark, its name and its bound.
+fn named_line(alloc: Global, mark: &str, name: &str, leaf: &Leaf<'_>) -> Result<String, AllocError>
+    ensures { IfOk result (λ text. (c : Contents) → Holds leaf.now c →
+        string_bytes text ≡ named_line mark.now name.now c) }
+{
+    let bound = BoundWords(leaf.heading().bound);
+    format!(in alloc; "{mark}{name}, {bound}\n")
+}
+
+// The line of the frame, with how many rows there are.
+fn frame_line(alloc: Global, leaf: &Leaf<'_>) -> Result<String, AllocError>
+    ensures { IfOk result (λ text. (c : Contents) → Holds leaf.now c → string_bytes text ≡ frame_line c) }
+{
+    let (frame, rows) = (leaf.heading().frame, leaf.len());
+    format!(in alloc; "frame {frame}, {rows} rows\n")
+}
+
+// The rows of two leaves beside each other, as cells.
+fn compared_table(alloc: Global, first: &Leaf<'_>, second: &Leaf<'_>) -> Result<Grid, AllocError>
+    ensures columns { IfOk result (λ table. headings_of table.headings.items ≡ compared_columns) }
+    ensures rows { IfOk result (λ table. (c d : Contents) → Holds first.now c → Holds second.now d →
+        shown_rows table.rows.items ≡ first_compared (length c.rows) c d) }
+{
+    let mut table = Grid::new(alloc, &COLUMNS)?;
+    push_compared(alloc, &mut table.rows, first, second)?;
+    Ok(table)
+}
+
+// Puts the rows of two leaves below others.
+fn push_compared(
     alloc: Global,
-    rank: usize,
+    rows: &mut Vec<Vec<Cell>>,
     first: &Leaf<'_>,
     second: &Leaf<'_>,
-    table: &mut Grid,
-) -> Result<bool, AllocError> {
-    let (Some(row), Some(one), Some(other)) = (
-        first.row(rank),
-        first.finding(rank),
-        second.finding(rank),
-    ) else {
-        return Ok(false);
-    };
-    let parts = part(one.verdict, other.verdict);
-    let mut cells = Vec::new(alloc);
-    push_row(&mut cells, rank, &row)?;
-    push_findings(alloc, &mut cells, &one, &other)?;
-    cells.push(Cell::of_text(alloc, if parts { "part" } else { "same" })?)?;
-    table.push(cells)?;
-    Ok(parts)
+) -> Result<(), AllocError>
+    ensures { OnOk result ((c d : Contents) → Holds first.now c → Holds second.now d →
+        shown_rows rows.new.items ≡ shown_rows rows.old.items ++ first_compared (length c.rows) c d) }
+{
+    for i in 0..first.len() {
+        let rank = i + 1;
+        let (row, one, other) = (first.row(rank), first.finding(rank), second.finding(rank));
+        rows.push(compared_row(alloc, rank, row, one, other)?)?;
+    }
+    Ok(())
 }
 
-// Whether a row meets by one of two verdicts and misses by the other.
-fn part(one: Verdict, other: Verdict) -> bool {
-    (one == Verdict::Misses) != (other == Verdict::Misses)
-}
-
-// Puts what two findings tell behind other cells.
-fn push_findings(
+// A row of a rank with both findings, where there are all three.
+fn compared_row(
     alloc: Global,
-    cells: &mut Vec<Cell>,
+    rank: usize,
+    row: Option<Row>,
+    one: Option<Finding>,
+    other: Option<Finding>,
+) -> Result<Vec<Cell>, AllocError>
+    ensures { IfOk result (λ cells. map shown_of cells.items
+        ≡ compared_of rank (option_map plain row) (option_map tells one) (option_map tells other)) }
+{
+    match row {
+        Some(row) => match one {
+            Some(one) => match other {
+                Some(other) => compared_cells(alloc, rank, &row, &one, &other),
+                None => Ok(Vec::new(alloc)),
+            },
+            None => Ok(Vec::new(alloc)),
+        },
+        None => Ok(Vec::new(alloc)),
+    }
+}
+
+// A row with both findings, as cells.
+fn compared_cells(
+    alloc: Global,
+    rank: usize,
+    row: &Row,
     one: &Finding,
     other: &Finding,
-) -> Result<(), AllocError> {
+) -> Result<Vec<Cell>, AllocError>
+    ensures { IfOk result (λ cells. map shown_of cells.items
+        ≡ compared_texts rank (plain row.now) (tells one.now) (tells other.now)) }
+{
+    let mut cells = Vec::new(alloc);
+    push_row(&mut cells, rank, row)?;
     cells.push(rest_cell(alloc, one.verdict)?)?;
     cells.push(rest_cell(alloc, other.verdict)?)?;
     cells.push(later_cell(alloc, one.verdict, other.verdict)?)?;
     cells.push(cell(one.points))?;
     cells.push(cell(other.points))?;
-    Ok(())
+    cells.push(word_cell(alloc, part(one.verdict, other.verdict))?)?;
+    Ok(cells)
+}
+
+// The word for verdicts that part, or do not.
+#[tactic(auto, using(crate::proofs::Cells::text_shown))]
+fn word_cell(alloc: Global, parts: bool) -> Result<Cell, AllocError>
+    ensures { IfOk result (λ cell. shown_of cell ≡ (if parts then codes "part" else codes "same")) }
+{
+    if parts {
+        Cell::of_text(alloc, "part")
+    } else {
+        Cell::of_text(alloc, "same")
+    }
+}
+
+// The ranks at which the verdicts of two leaves part.
+fn parted_ranks(
+    alloc: Global,
+    first: &Leaf<'_>,
+    second: &Leaf<'_>,
+) -> Result<Vec<usize>, AllocError> {
+    let mut ranks = Vec::new(alloc);
+    for i in 0..first.len() {
+        let rank = i + 1;
+        if parts_at(first, second, rank) {
+            ranks.push(rank)?;
+        }
+    }
+    Ok(ranks)
+}
+
+// Whether the verdicts of two leaves part at a rank.
+fn parts_at(first: &Leaf<'_>, second: &Leaf<'_>, rank: usize) -> bool {
+    match (first.finding(rank), second.finding(rank)) {
+        (Some(one), Some(other)) => part(one.verdict, other.verdict),
+        _ => false,
+    }
+}
+
+// Whether a row meets by one of two verdicts and misses by the other.
+fn part(one: Verdict, other: Verdict) -> bool
+    ensures { result ≡ do_part (verdict_rest one) (verdict_rest other) }
+{
+    match (one, other) {
+        (Verdict::Meets(_), Verdict::Misses) | (Verdict::Misses, Verdict::Meets(_)) => true,
+        _ => false,
+    }
 }
 
 // By how much the second first rest is later: negative, where it is earlier.
-fn later_cell(alloc: Global, one: Verdict, other: Verdict) -> Result<Cell, AllocError> {
+fn later_cell(alloc: Global, one: Verdict, other: Verdict) -> Result<Cell, AllocError>
+    ensures { IfOk result (λ cell. shown_of cell ≡ later_text (verdict_rest one) (verdict_rest other)) }
+{
     match (one, other) {
         (Verdict::Meets(a), Verdict::Meets(b)) if a <= b => Ok(cell(b - a)),
         (Verdict::Meets(a), Verdict::Meets(b)) => {
-            Ok(Cell::Text(format!(in alloc; "-{}", a.saturating_sub(b))?))
+            let earlier = a.saturating_sub(b);
+            Ok(Cell::Text(format!(in alloc; "-{earlier}")?))
         }
         _ => Ok(Cell::Nothing),
     }

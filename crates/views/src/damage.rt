@@ -1,9 +1,9 @@
 // What is told of bytes that are no leaf.
-ghost use Rattle.std.specs.Prelude.{◌≡◌, IfOk};
+ghost use Rattle.std.specs.Prelude.{◌≡◌, string_bytes, IfOk, Some};
+ghost use Rattle.views.specs.Texts.{damage_text};
 
 use rows::Fault;
 use std::alloc::{AllocError, Global};
-use std::error::Error;
 use std::fmt;
 
 // So many bytes are shown before the place of a refusal, and so many after the one that stands there.
@@ -13,7 +13,7 @@ const AFTER: usize = 7;
 
 /// A damaged leaf: its name, the refusal with its place, and the bytes around the place in hexadecimal,
 /// the one at the place in brackets (docs/PROGRAMS.md, `yabreznul show`).
-#[derive(Debug, Drop)]
+#[derive(Drop)]
 pub struct Damage {
     pub(crate) name: String,
     pub(crate) fault: Fault,
@@ -28,7 +28,8 @@ impl Damage {
         bytes: &[u8],
         fault: Fault,
     ) -> Result<Damage, AllocError>
-        ensures { IfOk result (λ damage. damage.fault ≡ fault) }
+        ensures name { IfOk result (λ damage. string_bytes damage.name ≡ name.now) }
+        ensures fault { IfOk result (λ damage. damage.fault ≡ fault) }
     {
         Ok(Damage {
             name: String::from_str(alloc, name)?,
@@ -62,17 +63,15 @@ fn push_from(text: &mut String, bytes: &[u8]) -> Result<(), AllocError> {
 }
 
 impl fmt::Display for Damage {
+    ghost output = { λ d. Some (damage_text (string_bytes d.name) d.fault.refusal d.fault.at (string_bytes d.around)) };
+
     fn fmt<W: fmt::Write>(&self, f: &mut fmt::Formatter<W>) -> fmt::Result {
-        let Fault { refusal, at } = self.fault;
+        let (name, around, at) = (&self.name, &self.around, self.fault.at);
+        let number = self.fault.refusal.number();
+        let words = self.fault.refusal.words();
         write!(
             f,
-            "{}: refused {} {} at byte {at}, around it {}",
-            self.name,
-            refusal.number(),
-            refusal.words(),
-            self.around
+            "{name}: refused {number} {words} at byte {at}, around it {around}"
         )
     }
 }
-
-impl Error for Damage {}

@@ -1,10 +1,11 @@
 // In what two leaves of different tables differ.
-ghost use Rattle.std.specs.Prelude.{◌≡◌, length, IfNone};
+ghost use Rattle.std.specs.Prelude.{◌≡◌, length, IfNone, IfSome};
 ghost use Rattle.std.specs.Option.{option_map};
 ghost use Rattle.rows.specs.Judging.{plain};
 ghost use Rattle.rows.specs.Lists.{at_rank};
 ghost use Rattle.leaves.specs.Contents.{Contents};
 ghost use Rattle.reading.specs.Leaves.{Holds};
+ghost use Rattle.views.specs.Differences.{Differ, IsFirstParted};
 ghost use Rattle.views.specs.Leaves.{HaveOneTable, AreSameUpTo};
 
 use reading::Leaf;
@@ -13,7 +14,7 @@ use std::fmt;
 
 /// Why two leaves are not of one table (docs/PROGRAMS.md, `yabreznul compare`): their frames differ, or
 /// how many rows they have, or the rows of a rank.
-#[derive(Clone, Copy, PartialEq, Eq, Debug)]
+#[derive(Clone, Copy)]
 pub enum Difference {
     Frames(u32, u32),
     Counts(usize, usize),
@@ -26,8 +27,10 @@ pub enum Difference {
 
 // The first difference between the tables of two leaves, if there is one.
 pub(crate) fn first_difference(first: &Leaf<'_>, second: &Leaf<'_>) -> Option<Difference>
-    ensures { IfNone result ((c d : Contents) → Holds first.now c → Holds second.now d →
+    ensures none { IfNone result ((c d : Contents) → Holds first.now c → Holds second.now d →
         HaveOneTable c d) }
+    ensures first { IfSome result (λ difference. (c d : Contents) → Holds first.now c → Holds second.now d →
+        Differ difference c d) }
 {
     let (one, other) = (first.heading().frame, second.heading().frame);
     if one != other {
@@ -48,8 +51,10 @@ pub(crate) fn first_difference(first: &Leaf<'_>, second: &Leaf<'_>) -> Option<Di
 
 // The first rank of two leaves of one length at which their rows differ, if there is one.
 fn first_parted(first: &Leaf<'_>, second: &Leaf<'_>) -> Option<usize>
-    ensures { IfNone result ((c d : Contents) → Holds first.now c → Holds second.now d →
+    ensures none { IfNone result ((c d : Contents) → Holds first.now c → Holds second.now d →
         AreSameUpTo (length c.rows) c d) }
+    ensures first { IfSome result (λ rank. (c d : Contents) → Holds first.now c → Holds second.now d →
+        IsFirstParted rank c d) }
 {
     for i in 0..first.len() {
         if numbers_at(first, i + 1) != numbers_at(second, i + 1) {

@@ -33,10 +33,7 @@ pub(crate) fn number_cell(number: Option<u64>) -> Cell
 pub(crate) fn first_rest(verdict: Verdict) -> Option<u64>
     ensures { result ≡ verdict_rest verdict }
 {
-    match verdict {
-        Verdict::Meets(rest) => Some(u64::from(rest)),
-        Verdict::Misses => None,
-    }
+    verdict.rest().map(u64::from)
 }
 
 // The first rest that a verdict carries, or the word that the row misses.

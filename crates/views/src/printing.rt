@@ -1,10 +1,15 @@
 // A table with both counts side by side, as text.
-ghost use Rattle.std.specs.Prelude.{◌≡◌, ◌==◌, ◌∷◌, [], map, not, count_by, IfOk};
-ghost use Rattle.std.specs.Option.{is_some};
+ghost use Rattle.std.specs.Prelude.{◌≡◌, ◌==◌, ◌<◌, ◌∷◌, [], length, map, not, string_bytes, IfOk, OnOk, IfErr};
 ghost use Rattle.rows.specs.Judging.{plain};
 ghost use Rattle.verdicts.specs.Found.{tells, verdict_rest};
 ghost use Rattle.grids.specs.Shown.{shown_of};
-ghost use Rattle.views.specs.Cells.{counted_texts, gap_of, slack_of};
+ghost use Rattle.grid_csv.specs.Fields.{headings_of};
+ghost use Rattle.brackets.specs.Counting.{gap};
+ghost use Rattle.views.specs.Cells.{counted_texts, slack_of};
+ghost use Rattle.views.specs.Counted.{filed_of};
+ghost use Rattle.views.specs.Printed.{IsTableText, count_columns, first_told, head_text, told_at};
+ghost use Rattle.views.specs.Ranked.{shown_rows};
+ghost use Rattle.views.specs.Troubles.{Fails, Writes, of_nothing};
 
 use crate::counted::Counted;
 use crate::leaf_cells::{cell, number_cell, push_numbers, rest_cell};
@@ -12,12 +17,13 @@ use crate::outputs::write_out;
 use crate::troubles::Trouble;
 use crate::utilisation::Utilisation;
 use bounds::Bound;
+use brackets::Counts;
 use filings::Filing;
 use grids::{Cell, Grid, aligned};
 use rows::Row;
 use std::alloc::{AllocError, Global};
 use std::io::Write;
-use verdicts::{Finding, Verdict};
+use verdicts::{Finding, count_met};
 
 // The columns of a table that was counted twice.
 const COLUMNS: [&str; 13] = [
@@ -39,31 +45,67 @@ const COLUMNS: [&str; 13] = [
 impl Counted {
     /// Writes the table with both counts side by side, how much of the processor it utilises, and how
     /// many rows meet by each count (docs/PROGRAMS.md, `yabreznul file`). It flushes the writer.
-    pub fn write_table<W: Write>(&self, alloc: Global, writer: &mut W) -> Result<(), Trouble> {
-        let text = self.text(alloc)?;
-        write_out(writer, &text)
+    pub fn write_table<W: Write>(&self, alloc: Global, writer: &mut W) -> Result<(), Trouble>
+        ensures written { OnOk result (Writes (IsTableText self.now) (W.contents writer.old) (W.contents writer.new)) }
+        ensures failed { IfErr result (Fails (IsTableText self.now) of_nothing
+            (W.contents writer.old) (W.contents writer.new)) }
+    {
+        match self.text(alloc) {
+            Ok(text) => write_out(writer, &text),
+            Err(error) => Err(Trouble::Memory(error)),
+        }
     }
 
     // What is written of the table.
-    fn text(&self, alloc: Global) -> Result<Vec<u8>, AllocError> {
-        let filing = &self.filing;
-        let (frame, accuracy) = (filing.frame(), filing.tail().accuracy());
-        let head = format!(in alloc; "frame {frame}, linear tail of accuracy {accuracy}\n")?;
-        let mut text = Vec::from_slice(alloc, head.as_bytes())?;
-        text.extend_from_slice(&aligned(alloc, &self.table_of_counts(alloc)?)?)?;
-        text.extend_from_slice(foot(alloc, filing)?.as_bytes())?;
+    fn text(&self, alloc: Global) -> Result<Vec<u8>, AllocError>
+        ensures { IfOk result (λ text. IsTableText self.now text.items) }
+    {
+        let table = self.table_of_counts(alloc)?;
+        let mut text = self.head(alloc)?.into_bytes();
+        text.extend_from_slice(&aligned(alloc, &table)?)?;
+        text.extend_from_slice(foot(alloc, &self.filing)?.as_bytes())?;
         Ok(text)
     }
 
+    // The line above the table: the frame and the accuracy.
+    fn head(&self, alloc: Global) -> Result<String, AllocError>
+        ensures { IfOk result (λ text. string_bytes text ≡ head_text self.now) }
+    {
+        let (frame, accuracy) = (self.filing.frame(), self.filing.tail().accuracy());
+        format!(in alloc; "frame {frame}, linear tail of accuracy {accuracy}\n")
+    }
+
     // The rows with both counts, as cells.
-    fn table_of_counts(&self, alloc: Global) -> Result<Grid, AllocError> {
+    fn table_of_counts(&self, alloc: Global) -> Result<Grid, AllocError>
+        ensures headings { IfOk result (λ grid. headings_of grid.headings.items ≡ count_columns) }
+        ensures rows { IfOk result (λ grid. shown_rows grid.rows.items ≡ first_told (length (filed_of self.now).rows) self.now) }
+    {
         let mut grid = Grid::new(alloc, &COLUMNS)?;
-        let findings = self.filing.exact().iter().zip(self.filing.bounded());
-        for (i, (row, (exact, bounded))) in self.filing.rows().iter().zip(findings).enumerate() {
-            let name = self.table.name(i + 1);
-            grid.push(counted_row(alloc, i + 1, name, row, exact, bounded)?)?;
+        for i in 0..self.filing.rows().len() {
+            grid.push(self.row_at(alloc, i)?)?;
         }
         Ok(grid)
+    }
+
+    // The row at a place, counted from 0, with both counts.
+    fn row_at(&self, alloc: Global, i: usize) -> Result<Vec<Cell>, AllocError>
+        requires { i < length (filed_of self.now).rows }
+        ensures { IfOk result (λ cells. map shown_of cells.items ≡ told_at i self.now) }
+    {
+        let (rows, exact, bounded) = (
+            self.filing.rows(),
+            self.filing.exact(),
+            self.filing.bounded(),
+        );
+        let rank = i + 1;
+        counted_row(
+            alloc,
+            rank,
+            self.table.name(rank),
+            &rows[i],
+            &exact[i],
+            &bounded[i],
+        )
     }
 }
 
@@ -88,7 +130,7 @@ fn counted_row(
     cells.push(number_cell(exact.response_bound(row)))?;
     cells.push(number_cell(slack(row, exact)))?;
     cells.push(rest_cell(alloc, bounded.verdict)?)?;
-    cells.push(number_cell(gap(exact.verdict, bounded.verdict)))?;
+    cells.push(number_cell(gap(exact, bounded)))?;
     cells.push(cell(exact.points))?;
     cells.push(cell(bounded.points))?;
     Ok(cells)
@@ -103,33 +145,22 @@ fn slack(row: &Row, finding: &Finding) -> Option<u64>
 }
 
 // How much later the second first rest is than the first, of a row that meets by both counts.
-fn gap(exact: Verdict, bounded: Verdict) -> Option<u64>
-    ensures { result ≡ gap_of (verdict_rest exact) (verdict_rest bounded) }
+fn gap(exact: &Finding, bounded: &Finding) -> Option<u64>
+    ensures { result ≡ gap (verdict_rest exact.now.verdict) (verdict_rest bounded.now.verdict) }
 {
-    match (exact, bounded) {
-        (Verdict::Meets(exact), Verdict::Meets(bounded)) => {
-            Some(u64::from(bounded.saturating_sub(exact)))
-        }
-        _ => None,
-    }
+    let counts = Counts {
+        exact: *exact,
+        bounded: *bounded,
+    };
+    counts.gap().map(u64::from)
 }
 
 // What stands below the table: how much of the processor it utilises, and how many rows meet by each count.
 fn foot(alloc: Global, filing: &Filing) -> Result<String, AllocError> {
     let utilisation = Utilisation::of(filing.frame(), filing.rows());
     let rows = filing.rows().len();
-    let (exact, bounded) = (count_meets(filing.exact()), count_meets(filing.bounded()));
+    let (exact, bounded) = (count_met(filing.exact()), count_met(filing.bounded()));
     format!(in alloc;
         "utilisation {utilisation}\n{exact} of {rows} rows meet in exact steps, {bounded} of {rows} by the linear tail\n"
     )
-}
-
-// How many of some findings say that the row meets.
-fn count_meets(findings: &[Finding]) -> usize
-    ensures { result ≡ count_by (λ finding. is_some (tells finding).rest) findings.now }
-{
-    findings
-        .iter()
-        .filter(|finding| finding.verdict != Verdict::Misses)
-        .count()
 }

@@ -1,7 +1,7 @@
 // The sheet of a task table.
-ghost use Rattle.std.specs.Prelude.{◌≡◌, false, OnOk, IfErr};
-ghost use Rattle.std.specs.Io.KnownBytes.{Keeps};
-ghost use Rattle.views.specs.Sheeted.{WritesSheet, is_output};
+ghost use Rattle.std.specs.Prelude.{◌≤◌, length, take, IfOk, OnOk, IfErr};
+ghost use Rattle.views.specs.Sheeted.{IsSheetFor, IsSheetOf};
+ghost use Rattle.views.specs.Troubles.{Fails, TellsFirst, Writes, of_table};
 
 use crate::counted::trouble;
 use crate::outputs::write_out;
@@ -10,7 +10,7 @@ use filings::write_sheet;
 use sheets::MOST_SHEET;
 use std::alloc::Global;
 use std::io::{Read, Write};
-use task_tables::read;
+use task_tables::{TaskTable, read};
 
 /// Reads a task table and writes its sheet, for the program `survey` (docs/FORMAT.md, Sheets): on the
 /// frame that is named, or the least common multiple of the periods; by the linear tail of the accuracy
@@ -24,18 +24,36 @@ pub fn sheet<R: Read, W: Write>(
     accuracy: Option<u32>,
     writer: &mut W,
 ) -> Result<(), Trouble>
-    ensures written { OnOk result (WritesSheet frame accuracy (R.remaining reader.old)
+    ensures written { OnOk result (Writes (IsSheetFor frame accuracy (R.remaining reader.old))
         (W.contents writer.old) (W.contents writer.new)) }
-    ensures kept { IfErr result (λ t. is_output t ≡ false →
-        Keeps (W.contents writer.old) (W.contents writer.new)) }
+    ensures failed { IfErr result (λ t. Fails (IsSheetFor frame accuracy (R.remaining reader.old))
+        (of_table (R.remaining reader.old) frame accuracy)
+        (W.contents writer.old) (W.contents writer.new) t) }
 {
-    let table = read(alloc, reader)?;
     let mut buffer = [0; MOST_SHEET];
-    match write_sheet(frame, accuracy, table.numbers(), &mut buffer) {
-        Ok(length) => {
-            write_out(writer, &buffer[..length])?;
-            Ok(())
-        }
-        Err(fault) => Err(trouble(alloc, &table, frame, fault)?),
+    match read(alloc, reader) {
+        Ok(table) => match put_sheet(alloc, &table, frame, accuracy, &mut buffer) {
+            Ok(length) => write_out(writer, &buffer[..length]),
+            Err(trouble) => Err(trouble),
+        },
+        Err(error) => Err(Trouble::Table(error)),
+    }
+}
+
+// Puts the sheet of a table in front into a buffer that has room for every sheet. Answers its length.
+fn put_sheet(
+    alloc: Global,
+    table: &TaskTable,
+    frame: Option<u32>,
+    accuracy: Option<u32>,
+    buffer: &mut [u8; MOST_SHEET],
+) -> Result<usize, Trouble>
+    ensures within { IfOk result (λ n. n ≤ length buffer.new) }
+    ensures sheet { IfOk result (λ n. IsSheetOf frame accuracy table.now (take n buffer.new)) }
+    ensures refused { IfErr result (λ t. TellsFirst frame accuracy table.now t) }
+{
+    match write_sheet(frame, accuracy, table.numbers(), buffer) {
+        Ok(length) => Ok(length),
+        Err(fault) => Err(trouble(alloc, table, frame, fault)),
     }
 }

@@ -1,13 +1,16 @@
 // Leaves shown, as tables for people or as records for programs.
-ghost use Rattle.std.specs.Prelude.{◌≡◌, ◌++◌, ◌∷◌, [], string_bytes, IfOk, OnOk};
+ghost use Rattle.std.specs.Prelude.{◌≡◌, ◌++◌, ◌∷◌, [], string_bytes, IfOk, OnOk, IfErr};
 ghost use Rattle.rows.specs.Refusals.{number, words};
 ghost use Rattle.leaves.specs.Contents.{Contents};
 ghost use Rattle.leaves.specs.Headings.{heading_plain};
 ghost use Rattle.reading.specs.Leaves.{Holds};
-ghost use Rattle.views.specs.Added.{AddsHeld, GrowBy, IsCsvOf, WritesCsv, layout_of, shown_records};
+ghost use Rattle.grid_csv.specs.Fields.{headings_of};
+ghost use Rattle.views.specs.Added.{Adds, AddsHeld, GrowBy, GrowsRecords, GrowsText, IsCsvOf, IsDamageLine, IsShown, KeepsSetup, field_names, layout_of, shown_headings, shown_records, shown_text};
 ghost use Rattle.views.specs.Cells.{damage_fields, leaf_texts, record_fields};
-ghost use Rattle.views.specs.Leaves.{HeldLeaf};
+ghost use Rattle.views.specs.Leaves.{HeldLeaf, IsLeaf};
 ghost use Rattle.views.specs.Ranked.{StandsAt, field_rows, leaf_records, shown_rows, told_rows};
+ghost use Rattle.views.specs.Texts.{IsLeafText, leaf_columns, leaf_head, parted};
+ghost use Rattle.views.specs.Troubles.{Fails, IsTroubleOf, Writes, of_leaf, of_nothing};
 
 use crate::bound_words::BoundWords;
 use crate::damage::Damage;
@@ -19,7 +22,7 @@ use crate::records::{FIELDS, damage_record, heading_record, row_record};
 use crate::troubles::Trouble;
 use grid_csv::to_csv;
 use grid_json::to_json;
-use grids::{Grid, aligned};
+use grids::{Cell, Grid, aligned};
 use reading::{Leaf, read};
 use rows::Row;
 use std::alloc::{AllocError, Global};
@@ -40,7 +43,7 @@ const COLUMNS: [&str; 8] = [
 
 /// Leaves to be shown in one layout, in the order in which they are added (docs/PROGRAMS.md,
 /// `yabreznul show`).
-#[derive(Debug, Drop)]
+#[derive(Drop)]
 pub struct Show {
     alloc: Global,
     layout: Layout,
@@ -49,9 +52,11 @@ pub struct Show {
 }
 
 impl Show {
-    /// No leaf yet.
-    pub fn new(alloc: Global, layout: Layout) -> Result<Show, Trouble>
+    /// No leaf yet. Memory alone can fail.
+    pub fn new(alloc: Global, layout: Layout) -> Result<Show, AllocError>
         ensures layout { IfOk result (λ show. layout_of show ≡ layout) }
+        ensures text { IfOk result (λ show. shown_text show ≡ []) }
+        ensures headings { IfOk result (λ show. shown_headings show ≡ field_names) }
         ensures records { IfOk result (λ show. shown_records show ≡ []) }
     {
         Ok(Show {
@@ -68,15 +73,31 @@ impl Show {
     pub fn add<R: Read>(&mut self, name: &str, reader: &mut R) -> Result<bool, Trouble>
         ensures leaf { IfOk result (λ is_leaf. HeldLeaf (R.remaining reader.old) is_leaf) }
         ensures added { IfOk result (λ is_leaf. AddsHeld is_leaf name.now (R.remaining reader.old) self.old self.new) }
+        ensures setup { KeepsSetup self.old self.new }
+        ensures failed { IfErr result (IsTroubleOf of_leaf) }
     {
-        let bytes = read_whole(self.alloc, reader)?;
-        match read(&bytes) {
+        match read_whole(self.alloc, reader) {
+            Ok(bytes) => match self.add_bytes(name, &bytes) {
+                Ok(is_leaf) => Ok(is_leaf),
+                Err(error) => Err(Trouble::Memory(error)),
+            },
+            Err(trouble) => Err(trouble),
+        }
+    }
+
+    // Adds bytes as a leaf of some name.
+    fn add_bytes(&mut self, name: &str, bytes: &[u8]) -> Result<bool, AllocError>
+        ensures leaf { IfOk result (λ is_leaf. IsLeaf is_leaf bytes.now) }
+        ensures added { IfOk result (λ is_leaf. Adds is_leaf name.now bytes.now self.old self.new) }
+        ensures setup { KeepsSetup self.old self.new }
+    {
+        match read(bytes) {
             Ok(leaf) => {
                 self.add_leaf(name, &leaf)?;
                 Ok(true)
             }
             Err(fault) => {
-                let damage = Damage::of(self.alloc, name, &bytes, fault)?;
+                let damage = Damage::of(self.alloc, name, bytes, fault)?;
                 self.add_damage(name, &damage)?;
                 Ok(false)
             }
@@ -85,9 +106,9 @@ impl Show {
 
     // Adds a leaf in the layout.
     fn add_leaf(&mut self, name: &str, leaf: &Leaf<'_>) -> Result<(), AllocError>
-        ensures layout { layout_of self.new ≡ layout_of self.old }
-        ensures records { OnOk result ((c : Contents) → Holds leaf.now c →
-            GrowBy (layout_of self.old) (leaf_records name.now c) self.old self.new) }
+        ensures setup { KeepsSetup self.old self.new }
+        ensures added { OnOk result ((c : Contents) → Holds leaf.now c →
+            GrowBy (layout_of self.old) (IsLeafText name.now c) (leaf_records name.now c) self.old self.new) }
     {
         match self.layout {
             Layout::Aligned => self.add_table(name, leaf),
@@ -97,17 +118,15 @@ impl Show {
 
     // Adds what is told of a damaged leaf in the layout.
     fn add_damage(&mut self, name: &str, damage: &Damage) -> Result<(), AllocError>
-        ensures layout { layout_of self.new ≡ layout_of self.old }
-        ensures records { OnOk result (GrowBy (layout_of self.old)
+        requires { string_bytes damage.now.name ≡ name.now }
+        ensures setup { KeepsSetup self.old self.new }
+        ensures added { OnOk result (GrowBy (layout_of self.old)
+            (IsDamageLine name.now damage.now.fault.refusal damage.now.fault.at (string_bytes damage.now.around))
             (damage_fields name.now (number damage.now.fault.refusal) (words damage.now.fault.refusal) damage.now.fault.at (string_bytes damage.now.around) ∷ [])
             self.old self.new) }
     {
         match self.layout {
-            Layout::Aligned => {
-                self.part()?;
-                let line = format!(in self.alloc; "{damage}\n")?;
-                self.text.extend_from_slice(line.as_bytes())
-            }
+            Layout::Aligned => self.add_line(damage),
             Layout::Csv | Layout::Json => {
                 let record = damage_record(self.alloc, name, damage)?;
                 self.records.push(record)
@@ -115,62 +134,68 @@ impl Show {
         }
     }
 
-    // Puts an empty line between what is there and what follows.
-    fn part(&mut self) -> Result<(), AllocError>
-        ensures layout { layout_of self.new ≡ layout_of self.old }
+    // Adds the line that tells a damaged leaf.
+    fn add_line(&mut self, damage: &Damage) -> Result<(), AllocError>
+        ensures setup { KeepsSetup self.old self.new }
+        ensures added { OnOk result (GrowsText
+            (IsDamageLine (string_bytes damage.now.name) damage.now.fault.refusal damage.now.fault.at (string_bytes damage.now.around))
+            self.old self.new) }
+    {
+        let line = format!(in self.alloc; "{damage}\n")?;
+        self.add_text(line.as_bytes())
+    }
+
+    // Adds a text, with an empty line between it and what is there.
+    fn add_text(&mut self, text: &[u8]) -> Result<(), AllocError>
+        ensures setup { KeepsSetup self.old self.new }
+        ensures text { OnOk result (shown_text self.new ≡ parted (shown_text self.old) ++ text.now) }
         ensures records { self.new.records ≡ self.old.records }
     {
         if !self.text.is_empty() {
             self.text.extend_from_slice(b"\n")?;
         }
-        Ok(())
+        self.text.extend_from_slice(text)
     }
 
     // Adds a leaf as a person reads it.
     fn add_table(&mut self, name: &str, leaf: &Leaf<'_>) -> Result<(), AllocError>
-        ensures layout { layout_of self.new ≡ layout_of self.old }
-        ensures records { self.new.records ≡ self.old.records }
+        ensures setup { KeepsSetup self.old self.new }
+        ensures added { OnOk result ((c : Contents) → Holds leaf.now c →
+            GrowsText (IsLeafText name.now c) self.old self.new) }
     {
-        self.part()?;
-        let heading = leaf.heading();
-        let bound = BoundWords(heading.bound);
-        let head = format!(in self.alloc;
-            "{name}: {bound}, frame {}, {} rows\n",
-            heading.frame,
-            leaf.len()
-        )?;
-        self.text.extend_from_slice(head.as_bytes())?;
-        let table = leaf_table(self.alloc, leaf)?;
-        self.text.extend_from_slice(&aligned(self.alloc, &table)?)
+        let text = leaf_text(self.alloc, name, leaf)?;
+        self.add_text(&text)
     }
 
     // Adds the records of a leaf: of one without a row, the one that tells its heading.
     fn add_records(&mut self, name: &str, leaf: &Leaf<'_>) -> Result<(), AllocError>
-        ensures layout { layout_of self.new ≡ layout_of self.old }
-        ensures records { OnOk result ((c : Contents) → Holds leaf.now c →
-            shown_records self.new ≡ shown_records self.old ++ leaf_records name.now c) }
+        ensures setup { KeepsSetup self.old self.new }
+        ensures added { OnOk result ((c : Contents) → Holds leaf.now c →
+            GrowsRecords (leaf_records name.now c) self.old self.new) }
     {
         if leaf.is_empty() {
             let record = heading_record(self.alloc, name, leaf.heading())?;
             return self.records.push(record);
         }
-        push_records(self.alloc, &mut self.records, name, leaf)
+        push_records(self.alloc, &mut self.records.rows, name, leaf)
     }
 
     /// Writes all that was added, and flushes the writer.
     pub fn write<W: Write>(&self, writer: &mut W) -> Result<(), Trouble>
-        ensures { OnOk result (WritesCsv (layout_of self.now) self.now (W.contents writer.old) (W.contents writer.new)) }
+        ensures written { OnOk result (Writes (IsShown (layout_of self.now) self.now) (W.contents writer.old) (W.contents writer.new)) }
+        ensures failed { IfErr result (Fails (IsShown (layout_of self.now) self.now) of_nothing
+            (W.contents writer.old) (W.contents writer.new)) }
     {
         match self.layout {
             Layout::Aligned => write_out(writer, &self.text),
-            Layout::Csv => {
-                let text = csv_text(self.alloc, &self.records)?;
-                write_out(writer, &text)
-            }
-            Layout::Json => {
-                let text = to_json(self.alloc, &self.records)?;
-                write_out(writer, text.as_bytes())
-            }
+            Layout::Csv => match csv_text(self.alloc, &self.records) {
+                Ok(text) => write_out(writer, &text),
+                Err(error) => Err(Trouble::Memory(error)),
+            },
+            Layout::Json => match to_json(self.alloc, &self.records) {
+                Ok(text) => write_out(writer, text.as_bytes()),
+                Err(error) => Err(Trouble::Memory(error)),
+            },
         }
     }
 }
@@ -185,29 +210,58 @@ fn csv_text(alloc: Global, records: &Grid) -> Result<Vec<u8>, AllocError>
     }
 }
 
+// A leaf as a person reads it.
+fn leaf_text(alloc: Global, name: &str, leaf: &Leaf<'_>) -> Result<Vec<u8>, AllocError>
+    ensures { IfOk result (λ text. (c : Contents) → Holds leaf.now c → IsLeafText name.now c text.items) }
+{
+    let table = leaf_table(alloc, leaf)?;
+    let mut text = leaf_head(alloc, name, leaf)?.into_bytes();
+    text.extend_from_slice(&aligned(alloc, &table)?)?;
+    Ok(text)
+}
+
+// The line above a leaf.
+fn leaf_head(alloc: Global, name: &str, leaf: &Leaf<'_>) -> Result<String, AllocError>
+    ensures { IfOk result (λ text. (c : Contents) → Holds leaf.now c → string_bytes text ≡ leaf_head name.now c) }
+{
+    let heading = leaf.heading();
+    let (bound, frame, rows) = (BoundWords(heading.bound), heading.frame, leaf.len());
+    format!(in alloc; "{name}: {bound}, frame {frame}, {rows} rows\n")
+}
+
 // The rows of a leaf with their findings.
 fn leaf_table(alloc: Global, leaf: &Leaf<'_>) -> Result<Grid, AllocError>
-    ensures { IfOk result (λ table. (c : Contents) → Holds leaf.now c →
+    ensures columns { IfOk result (λ table. headings_of table.headings.items ≡ leaf_columns) }
+    ensures rows { IfOk result (λ table. (c : Contents) → Holds leaf.now c →
         shown_rows table.rows.items ≡ told_rows leaf_texts c) }
 {
     let mut table = Grid::new(alloc, &COLUMNS)?;
+    push_rows(alloc, &mut table.rows, leaf)?;
+    Ok(table)
+}
+
+// Puts the rows of a leaf with their findings below others.
+fn push_rows(alloc: Global, rows: &mut Vec<Vec<Cell>>, leaf: &Leaf<'_>) -> Result<(), AllocError>
+    ensures { OnOk result ((c : Contents) → Holds leaf.now c →
+        shown_rows rows.new.items ≡ shown_rows rows.old.items ++ told_rows leaf_texts c) }
+{
     for i in 0..leaf.len() {
         if let Some((row, finding)) = row_at(leaf, i + 1) {
-            table.push(leaf_row(alloc, i + 1, &row, &finding)?)?;
+            rows.push(leaf_row(alloc, i + 1, &row, &finding)?)?;
         }
     }
-    Ok(table)
+    Ok(())
 }
 
 // Puts the records of the rows of a leaf below others.
 fn push_records(
     alloc: Global,
-    records: &mut Grid,
+    records: &mut Vec<Vec<Cell>>,
     name: &str,
     leaf: &Leaf<'_>,
 ) -> Result<(), AllocError>
-    ensures { OnOk result ((c : Contents) → Holds leaf.now c → field_rows records.new.rows.items
-        ≡ field_rows records.old.rows.items ++ told_rows (record_fields name.now (heading_plain c.heading)) c) }
+    ensures { OnOk result ((c : Contents) → Holds leaf.now c → field_rows records.new.items
+        ≡ field_rows records.old.items ++ told_rows (record_fields name.now (heading_plain c.heading)) c) }
 {
     let heading = leaf.heading();
     for i in 0..leaf.len() {

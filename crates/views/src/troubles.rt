@@ -1,17 +1,17 @@
 // Why a view was not given.
 ghost use Rattle.std.specs.Prelude.{◌≡◌};
-ghost use Rattle.views.specs.declared.troubles.Trouble.TheVariants.{Table, Memory};
+ghost use Rattle.views.specs.declared.troubles.Trouble.TheVariants.{Memory};
 
 use crate::damage::Damage;
 use crate::differences::Difference;
-use rows::{Fault, HORIZON};
+use rows::HORIZON;
 use std::alloc::AllocError;
 use std::error::Error;
 use std::{fmt, io};
 use task_tables::{Misread, ReadError};
 
-/// Why a view was not given, or not all of it (docs/PROGRAMS.md, Task tables, has the words):
-#[derive(Debug, Drop)]
+/// Why a view was not given, or not all of it (docs/PROGRAMS.md, Task tables, has the words).
+#[derive(Drop)]
 pub enum Trouble {
     /// The text of a table could not be read or taken.
     Table(ReadError),
@@ -25,8 +25,6 @@ pub enum Trouble {
     Accuracy,
     /// There is no row of the rank to be drawn among so many: 10.
     Rank(usize),
-    /// Another refusal of the numbers.
-    Refused(Fault),
     /// Bytes are no leaf.
     Damaged(Damage),
     /// Two leaves are not of one table.
@@ -59,7 +57,6 @@ impl fmt::Display for Trouble {
             Trouble::Rank(rows) => {
                 write!(f, "refused 10 no rank: expected --rank from 1 to {rows}")
             }
-            Trouble::Refused(fault) => write!(f, "{fault}"),
             Trouble::Damaged(damage) => write!(f, "{damage}"),
             Trouble::Different(difference) => write!(f, "{difference}"),
             Trouble::Input(error) => write!(f, "it could not be read: {error}"),
@@ -69,15 +66,13 @@ impl fmt::Display for Trouble {
     }
 }
 
-impl Error for Trouble {}
-
-impl From<ReadError> for Trouble {
-    ghost from_gives = { λ e t. t ≡ Table e };
-
-    fn from(error: ReadError) -> Trouble {
-        Trouble::Table(error)
+impl fmt::Debug for Trouble {
+    fn fmt<W: fmt::Write>(&self, f: &mut fmt::Formatter<W>) -> fmt::Result {
+        fmt::Display::fmt(self, f)
     }
 }
+
+impl Error for Trouble {}
 
 impl From<AllocError> for Trouble {
     ghost from_gives = { λ e t. t ≡ Memory e };

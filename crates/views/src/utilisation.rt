@@ -5,7 +5,7 @@ use rows::Row;
 use std::fmt;
 
 // The sum of work over period of some rows: in parts of a frame, and the frame.
-#[derive(Clone, Copy, Debug)]
+#[derive(Clone, Copy)]
 pub(crate) struct Utilisation {
     parts: u64,
     frame: u64,

@@ -1,12 +1,19 @@
-use Rattle.views.proofs.Puts.{put_first}
-use Rattle.std.proofs.Common.{◌∙◌, rules}
+use Rattle.std.proofs.Common.{rules}
+use Rattle.std.proofs.lemmas.Result.{IfOk-weaker}
+use Rattle.views.proofs.Puts.{put_copied, put_fits}
 use Rattle.views.proofs.counted.Counted.linear_leaf.Goals as goal
 
-pub returns-in_ok-from_slice-in-Ok : goal.returns-in_ok-from_slice-in-Ok
-returns-in_ok-from_slice-in-Ok c =
-    let (contents, survey, put) = c.in-Ok.ensures in
-    record {
+pub filed_in-requires : goal.filed_in-requires
+filed_in-requires c =
+    let (contents, survey, put) = c.file_bounded-filed.ensures in
+    put_fits contents _ c.file_bounded-filed.new.buffer c.file_bounded-filed.result survey.lawful (search rules) (search rules) put
+
+pub returns : goal.returns
+returns c =
+    let (contents, survey, put) = c.file_bounded-filed.ensures in
+    let fits = put_fits contents _ c.file_bounded-filed.new.buffer c.file_bounded-filed.result survey.lawful (search rules) (search rules) put in
+    IfOk-weaker c.filed_in.result _ _ (λ bytes copied. record {
       contents = contents;
       survey = survey;
-      encoded = search rules ∙ put_first contents _ c.file_bounded.new.buffer c.in-Ok.length put;
-    }
+      encoded = put_copied contents _ c.file_bounded-filed.new.buffer bytes.items c.file_bounded-filed.result fits put copied;
+    }) c.filed_in.ensures

@@ -1,0 +1,52 @@
+-- What is told of a place of a table that was counted.
+use Rattle.std.proofs.Common.{◌≡◌, ℕ, zero, suc, ◌+◌, ◌<◌, List, [], ◌∷◌, ◌++◌, length, map, Some, refl, sym, ap, ap₂, ◌∙◌, arith, slice_index_or, take}
+use Rattle.std.specs.Prelude.{Vec, slice_get}
+use Rattle.std.specs.declared.alloc.Global.{Global}
+use Rattle.std.proofs.lemmas.List.{length-map, map-append}
+use Rattle.rows.specs.declared.tasks.Numbers.{Numbers}
+use Rattle.rows.specs.Judging.{plain}
+use Rattle.bounds.specs.Meaning.{Meaning}
+use Rattle.verdicts.specs.declared.verdicts.Finding.{Finding}
+use Rattle.verdicts.specs.Found.{Found, tells}
+use Rattle.findings.proofs.Tables.{length_findings_below}
+use Rattle.filings.specs.Filings.{Filed, findings_by, exact_findings, bounded_findings}
+use Rattle.task_tables.specs.Tables.{table_names}
+use Rattle.grids.specs.Shown.{shown_of}
+use Rattle.grids.specs.Cells.{Rows}
+use Rattle.grids.specs.declared.cells.Cell.{Cell}
+use Rattle.views.specs.declared.counted.Counted.{Counted}
+use Rattle.views.specs.Cells.{counted_texts}
+use Rattle.views.specs.Printed.{first_told, told_at, told_of}
+use Rattle.views.specs.Ranked.{shown_rows}
+
+-- there are as many findings as rows
+pub findings_even : (m : Meaning) (f : Filed) (found : List Finding) → map tells found ≡ findings_by m f → length found ≡ length f.rows
+findings_even m f found is = sym (length-map found tells) ∙ ap length is ∙ length_findings_below m f.frame [] f.rows
+
+-- what stands at a place is read there
+pub at_place : {X Y : Type 0} (f : X → Y) (xs : List X) (i : ℕ) (d : X) → i < length xs → slice_get (map f xs) i ≡ Some (f (slice_index_or xs i d))
+at_place f [] i d within = absurd (omega (arith, within))
+at_place f (x ∷ xs) zero d within = refl
+at_place f (x ∷ xs) (suc i) d within = at_place f xs i d (omega (arith, within))
+
+-- the first elements of a list with the next one behind them
+pub take_one : {X : Type 0} (xs : List X) (i : ℕ) (d : X) → i < length xs → take (suc i) xs ≡ take i xs ++ slice_index_or xs i d ∷ []
+take_one [] i d within = absurd (omega (arith, within))
+take_one (x ∷ xs) zero d within = refl
+take_one (x ∷ xs) (suc i) d within = ap (λ ys. x ∷ ys) (take_one xs i d (omega (arith, within)))
+
+-- what is told of a row and of what both counts found is told of its place
+pub told_is : (i : ℕ) (c : Counted) (name : List ℕ) (n : Numbers) (exact bounded : Found) → name ≡ slice_index_or (table_names c.table) i [] → slice_get (map plain c.filing.rows) i ≡ Some n → slice_get (exact_findings c.filing) i ≡ Some exact → slice_get (bounded_findings c.filing) i ≡ Some bounded → counted_texts (i + 1) name n exact bounded ≡ told_at i c
+told_is i c name n exact bounded named row one other =
+    ap (λ x. told_of (i + 1) x (Some n) (Some exact) (Some bounded)) named
+    ∙ sym (ap (λ o. told_of (i + 1) (slice_index_or (table_names c.table) i []) o (slice_get (exact_findings c.filing) i) (slice_get (bounded_findings c.filing) i)) row
+    ∙ ap₂ (λ o p. told_of (i + 1) (slice_index_or (table_names c.table) i []) (Some n) o p) one other)
+
+-- one row more is told behind those before
+pub told_next : (i : ℕ) (c : Counted) (rows new : Rows) (cells : Vec Cell Global) → shown_rows rows ≡ first_told i c → map shown_of cells.items ≡ told_at i c → new ≡ rows ++ cells ∷ [] → shown_rows new ≡ first_told (i + 1) c
+told_next i c rows new cells before told grown =
+    let up : i + 1 ≡ suc i = omega arith in
+    ap shown_rows grown
+    ∙ map-append (λ row. map shown_of row.items) rows (cells ∷ [])
+    ∙ ap₂ (λ xs x. xs ++ x ∷ []) before told
+    ∙ ap (λ m. first_told m c) (sym up)

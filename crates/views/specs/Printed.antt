@@ -1,0 +1,53 @@
+-- The table with both counts side by side, as text.
+use Rattle.std.specs.Prelude.{◌≡◌, ℕ, zero, suc, ◌+◌, List, [], ◌∷◌, ◌++◌, length, map, Option, Some, None, codes, decimal, slice_get, slice_index_or}
+use Rattle.rows.specs.declared.tasks.Numbers.{Numbers}
+use Rattle.rows.specs.Judging.{plain}
+use Rattle.verdicts.specs.Found.{Found}
+use Rattle.filings.specs.Filings.{exact_findings, bounded_findings}
+use Rattle.task_tables.specs.Tables.{table_names}
+use Rattle.grids.specs.Aligned.{aligned_text}
+use Rattle.grids.specs.Cells.{Headings, Rows}
+use Rattle.grid_csv.specs.Fields.{headings_of}
+use Rattle.views.specs.declared.counted.Counted.{Counted}
+use Rattle.views.specs.Cells.{counted_texts}
+use Rattle.views.specs.Ranked.{shown_rows}
+
+-- what is told of a row, where there is one and both counts found something
+abbrev pub told_of : ℕ → List ℕ → Option Numbers → Option Found → Option Found → List (List ℕ)
+told_of rank name (Some n) (Some exact) (Some bounded) = counted_texts rank name n exact bounded
+told_of rank name None exact bounded = []
+told_of rank name (Some n) None bounded = []
+told_of rank name (Some n) (Some exact) None = []
+
+-- what is told of the row at a place, counted from 0
+abbrev pub told_at : ℕ → Counted → List (List ℕ)
+told_at i c =
+    told_of (i + 1) (slice_index_or (table_names c.table) i []) (slice_get (map plain c.filing.rows) i)
+    (slice_get (exact_findings c.filing) i) (slice_get (bounded_findings c.filing) i)
+
+-- what is told of the first rows, in rank order
+abbrev pub first_told : ℕ → Counted → List (List (List ℕ))
+first_told zero c = []
+first_told (suc i) c = first_told i c ++ told_at i c ∷ []
+
+-- the columns of the table
+abbrev pub count_columns : List (List ℕ)
+count_columns =
+    codes "rank" ∷ codes "name" ∷ codes "C" ∷ codes "D" ∷ codes "T" ∷ codes "J"
+    ∷ codes "exact rest" ∷ codes "response" ∷ codes "slack" ∷ codes "linear rest" ∷ codes "gap"
+    ∷ codes "exact points" ∷ codes "linear points" ∷ []
+
+-- the line above them: the frame and the accuracy
+abbrev pub head_text : Counted → List ℕ
+head_text c =
+    codes "frame " ++ (decimal c.filing.frame ++ (codes ", linear tail of accuracy " ++ (decimal c.filing.accuracy ++ codes "\n")))
+
+-- a text is that of a table: the frame and the accuracy, a line for the columns and one for each row in rank order, and
+-- what stands below them
+pub record IsTableText (c : Counted) (text : List ℕ) : Type 0 where
+  pub headings : Headings
+  pub rows : Rows
+  pub foot : List ℕ
+  pub columns : headings_of headings ≡ count_columns
+  pub told : shown_rows rows ≡ first_told (length c.filing.rows) c
+  pub parts : text ≡ head_text c ++ (aligned_text headings rows ++ foot)

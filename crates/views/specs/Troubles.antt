@@ -1,0 +1,131 @@
+-- What each trouble means.
+use Rattle.std.specs.Prelude.{◌≡◌, ◌≢◌, ℕ, ◌<◌, ◌≤◌, ◌⊎◌, Bool, true, false, List, length, take, is_some, Some, None, Option, string_bytes}
+use Rattle.std.specs.Io.KnownBytes.{Appends, Keeps}
+use Rattle.std.specs.IoError.{error_kind}
+use Rattle.std.specs.declared.io.ErrorKind.TheVariants.{Interrupted}
+use Rattle.rows.specs.declared.refusals.Fault.{Fault}
+use Rattle.rows.specs.declared.refusals.Refusal.{Refusal}
+use Rattle.rows.specs.declared.refusals.Refusal.TheVariants.{BadFrame, BadAccuracy}
+use Rattle.rows.specs.Answers.{refuses, first_refusal, Passes}
+use Rattle.rows.specs.Refusals.{number}
+use Rattle.leaves.specs.Contents.{Contents}
+use Rattle.reading.specs.Whole.{Fits}
+use Rattle.filings.specs.Checks.{filing_checks}
+use Rattle.task_tables.specs.declared.tables.TaskTable.{TaskTable}
+use Rattle.task_tables.specs.Misreads.{refusal_told}
+use Rattle.task_tables.specs.Refusals.{ReadsNone, is_misread}
+use Rattle.streams.specs.Held.{MayHold}
+use Rattle.task_tables.specs.Tables.{ReadsAll, table_numbers}
+use Rattle.views.specs.declared.damage.Damage.{Damage}
+use Rattle.views.specs.declared.troubles.Trouble.{Trouble}
+use Rattle.views.specs.declared.troubles.Trouble.TheVariants as trouble
+use Rattle.views.specs.Differences.{Differ}
+use Rattle.views.specs.Leaves.{HeldBoth, HeldLeaf}
+
+-- a refusal is about a row: neither about the frame nor about the accuracy
+abbrev pub is_of_row : Refusal → Bool
+is_of_row BadFrame = false
+is_of_row BadAccuracy = false
+is_of_row _ = true
+
+-- a trouble tells a refusal of numbers: a bad frame that was named, or that there is none where none was named; a bad
+-- accuracy; or that of a row. Where memory ran out, it is not told
+abbrev pub Tells : Option ℕ → Refusal → Trouble → Type 0
+Tells frame refusal trouble.Frame = (is_some frame ≡ true) × (refusal ≡ BadFrame)
+Tells frame refusal trouble.NoFrame = (frame ≡ None) × (refusal ≡ BadFrame)
+Tells frame refusal trouble.Accuracy = refusal ≡ BadAccuracy
+Tells frame refusal (trouble.Row m) = (refusal_told m ≡ Some refusal) × (is_of_row refusal ≡ true)
+Tells frame refusal (trouble.Memory e) = Unit {0}
+Tells frame refusal _ = ⊥
+
+-- the numbers of a table are refused, on the frame and by the accuracy that are named, and the first of the refusals is
+-- told
+pub record TellsFirst (frame accuracy : Option ℕ) (table : TaskTable) (t : Trouble) : Type 0 where
+  pub refusal : Refusal
+  pub at : ℕ
+  pub first : refuses (number refusal) at ≡ first_refusal (filing_checks frame accuracy (table_numbers table))
+  pub told : Tells frame refusal t
+
+-- so it is with a table that was read
+pub record TellsRefusal (held : Option (List ℕ)) (frame accuracy : Option ℕ) (t : Trouble) : Type 0 where
+  pub table : TaskTable
+  pub read : ReadsAll held table
+  pub refused : TellsFirst frame accuracy table t
+
+-- a table that was read passes its checks and has so many rows, and none of this rank
+pub record LacksRank (held : Option (List ℕ)) (frame accuracy : Option ℕ) (rank rows : ℕ) : Type 0 where
+  pub table : TaskTable
+  pub read : ReadsAll held table
+  pub passed : Passes (filing_checks frame accuracy (table_numbers table))
+  pub count : rows ≡ length (table_numbers table)
+  pub lacks : (rank ≡ 0) ⊎ (rows < rank)
+
+-- bytes are no leaf, and are refused as the damage tells
+pub record IsDamaged (name : List ℕ) (held : Option (List ℕ)) (d : Damage) : Type 0 where
+  pub named : string_bytes d.name ≡ name
+  pub bytes : List ℕ
+  pub all : MayHold held bytes
+  pub refused : Fits bytes (refuses (number d.fault.refusal) d.fault.at)
+
+-- what is told of bytes of a name that are refused as no leaf, where memory does not run out
+abbrev pub TellsDamage : List ℕ → Fault → Trouble → Type 0
+TellsDamage name fault (trouble.Damaged d) = (string_bytes d.name ≡ name) × (d.fault ≡ fault)
+TellsDamage name fault (trouble.Memory e) = Unit {0}
+TellsDamage name fault _ = ⊥
+
+-- what is told of two leaves that cannot be compared, where memory does not run out
+abbrev pub TellsDifference : Contents → Contents → Trouble → Type 0
+TellsDifference c d (trouble.Different difference) = Differ difference c d
+TellsDifference c d (trouble.Memory e) = Unit {0}
+TellsDifference c d _ = ⊥
+
+-- what a view is of: a table that a reader holds, with the frame and the accuracy that are named; the row of a rank of
+-- such a table; two leaves that readers hold, by their names; one leaf; or what was read before
+pub data Subject : Type 0 where
+  of_table : Option (List ℕ) → Option ℕ → Option ℕ → Subject
+  of_row : ℕ → Option (List ℕ) → Option ℕ → Option ℕ → Subject
+  of_leaves : List ℕ → Option (List ℕ) → List ℕ → Option (List ℕ) → Subject
+  of_leaf : Subject
+  of_nothing : Subject
+
+-- what a trouble means, by what the view is of. A table cannot be read: then its text is none, where that is what is
+-- told. Its numbers are refused. It has no row of the rank. A leaf is damaged, the first or else the second. Two leaves
+-- differ. An input fails, other than by being interrupted. Of memory nothing is said, and no other trouble can be
+abbrev pub IsTroubleOf : Subject → Trouble → Type 0
+IsTroubleOf (of_table held h k) (trouble.Table e) = is_misread e ≡ true → ReadsNone held
+IsTroubleOf (of_table held h k) t = TellsRefusal held h k t
+IsTroubleOf (of_row rank held h k) (trouble.Table e) = is_misread e ≡ true → ReadsNone held
+IsTroubleOf (of_row rank held h k) (trouble.Rank rows) = LacksRank held h k rank rows
+IsTroubleOf (of_row rank held h k) t = TellsRefusal held h k t
+IsTroubleOf (of_leaves a one b other) (trouble.Damaged d) = IsDamaged a one d ⊎ (HeldLeaf one true × IsDamaged b other d)
+IsTroubleOf (of_leaves a one b other) (trouble.Different d) = HeldBoth (Differ d) one other
+IsTroubleOf (of_leaves a one b other) (trouble.Input e) = error_kind e ≢ Interrupted
+IsTroubleOf (of_leaves a one b other) (trouble.Memory e) = Unit {0}
+IsTroubleOf (of_leaves a one b other) _ = ⊥
+IsTroubleOf of_leaf (trouble.Input e) = error_kind e ≢ Interrupted
+IsTroubleOf of_leaf (trouble.Memory e) = Unit {0}
+IsTroubleOf of_leaf _ = ⊥
+IsTroubleOf of_nothing (trouble.Memory e) = Unit {0}
+IsTroubleOf of_nothing _ = ⊥
+
+-- it was writing that failed, and not what came before
+abbrev pub is_output : Trouble → Bool
+is_output (trouble.Output e) = true
+is_output _ = false
+
+-- a view was written: what a writer holds grew by its bytes
+abbrev pub Writes : (List ℕ → Type 0) → Option (List ℕ) → Option (List ℕ) → Type 0
+Writes IsView old new = (bytes : List ℕ) × IsView bytes × Appends old new bytes
+
+-- writing it failed: what a writer holds grew by the first of its bytes
+abbrev pub Begins : (List ℕ → Type 0) → Option (List ℕ) → Option (List ℕ) → Type 0
+Begins IsView old new = (bytes : List ℕ) × IsView bytes × (n : ℕ) × (n ≤ length bytes) × Appends old new (take n bytes)
+
+-- a view failed before it was written: the trouble is one of what it is of, and the writer is as it was
+abbrev pub FailsBefore : Subject → Option (List ℕ) → Option (List ℕ) → Trouble → Type 0
+FailsBefore of old new t = is_output t ≡ false → IsTroubleOf of t × Keeps old new
+
+-- a view failed: before it was written, or where it was
+pub record Fails (IsView : List ℕ → Type 0) (of : Subject) (old new : Option (List ℕ)) (t : Trouble) : Type 0 where
+  pub before : FailsBefore of old new t
+  pub amid : is_output t ≡ true → Begins IsView old new
