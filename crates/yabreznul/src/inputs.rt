@@ -5,7 +5,7 @@ use crate::complaints::{Failed, MISUSED, complain, or_complain, out_of_memory};
 use std::alloc::Global;
 use std::env::Args;
 use std::fs::File;
-use std::io::{Read, Stdin};
+use std::io::{ErrorKind, Read, Stdin};
 use std::{env, io};
 
 /// What a word of the command line names: `-` the standard stream, any other word a file.
@@ -61,8 +61,12 @@ pub(crate) fn arguments(rt: &HostRuntime) -> Result<Vec<String>, Failed> {
     match env::args(rt) {
         Ok(words) => collected(rt, words),
         Err(error) => {
-            let _ = complain(rt, "command line", &error);
-            Err(MISUSED)
+            let failed = complain(rt, "command line", &error);
+            Err(if error.kind() == ErrorKind::OutOfMemory {
+                failed
+            } else {
+                MISUSED
+            })
         }
     }
 }

@@ -1,7 +1,5 @@
 // What is printed.
-ghost use Rattle.std.specs.Prelude.{◌≡◌, ◌≢◌};
-
-use crate::complaints::{Failed, MISUSED, REFUSED, or_complain};
+use crate::complaints::{Failed, MISUSED, or_complain, out_of_memory};
 use clap::error::ErrorKind;
 use std::io::Write;
 
@@ -12,21 +10,12 @@ pub(crate) fn print(rt: &HostRuntime, bytes: &[u8]) -> Result<(), Failed> {
 
 /// Prints what help or a misuse of the command line prints.
 pub(crate) fn print_parse(rt: &HostRuntime, error: &clap::Error) -> Result<(), Failed> {
-    let printed = error.print(rt);
     match error.kind() {
-        ErrorKind::DisplayHelp => or_complain(rt, "standard output", printed),
-        kind => Err(unparsed(kind)),
-    }
-}
-
-// How the program ends where the command line was not taken.
-fn unparsed(kind: ErrorKind) -> Failed
-    ensures memory { kind ≡ ErrorKind.OutOfMemory → result.status ≡ 1 }
-    ensures misuse { kind ≢ ErrorKind.OutOfMemory → result.status ≡ 2 }
-{
-    if kind == ErrorKind::OutOfMemory {
-        REFUSED
-    } else {
-        MISUSED
+        ErrorKind::OutOfMemory => Err(out_of_memory(rt, "command line")),
+        ErrorKind::DisplayHelp => or_complain(rt, "standard output", error.print(rt)),
+        _ => {
+            let _ = error.print(rt);
+            Err(MISUSED)
+        }
     }
 }

@@ -8,35 +8,45 @@ use std::alloc::Global;
 use views::{Show, Trouble};
 
 /// Prints what leaves hold, one after the other. A leaf that cannot be read or is damaged keeps none of the
-/// others from being printed, and the status is 1 in the end.
+/// others from being printed, and the status is 1 in the end. Where memory runs out while a leaf is shown,
+/// nothing is printed.
 pub(crate) fn show(rt: &HostRuntime, given: &ArgMatches<'_>) -> Result<(), Failed> {
     let Ok(leaves) = leaves(rt.alloc(), given) else {
         return Err(out_of_memory(rt, "command line"));
     };
     let mut show = or_complain(rt, "standard output", Show::new(rt.alloc(), layout(given)))?;
-    let whole = add_all(rt, &mut show, &leaves);
+    let are_leaves = add_all(rt, &mut show, &leaves)?;
     print_shown(rt, &show)?;
-    whole
+    if are_leaves { Ok(()) } else { Err(REFUSED) }
 }
 
-// Adds leaves to those that are shown.
-fn add_all(rt: &HostRuntime, show: &mut Show, leaves: &[Source<'_>]) -> Result<(), Failed> {
-    let mut whole = Ok(());
+// Adds leaves to those that are shown. Answers whether all are leaves. Where memory runs out, one may be
+// shown in part.
+fn add_all(rt: &HostRuntime, show: &mut Show, leaves: &[Source<'_>]) -> Result<bool, Failed> {
+    let mut are_leaves = true;
     for leaf in leaves {
-        if add(rt, show, *leaf).is_err() {
-            whole = Err(REFUSED);
-        }
+        are_leaves &= add(rt, show, *leaf)?;
     }
-    whole
+    Ok(are_leaves)
 }
 
-// Adds a leaf to those that are shown.
-fn add(rt: &HostRuntime, show: &mut Show, leaf: Source<'_>) -> Result<(), Failed> {
-    let mut reader = open_or_complain(rt, leaf)?;
-    if or_complain(rt, leaf.name(), show.add(leaf.name(), &mut reader))? {
-        Ok(())
-    } else {
-        Err(REFUSED)
+// Adds a leaf to those that are shown. Answers whether it is one.
+fn add(rt: &HostRuntime, show: &mut Show, leaf: Source<'_>) -> Result<bool, Failed> {
+    let Ok(mut reader) = open_or_complain(rt, leaf) else {
+        return Ok(false);
+    };
+    match show.add(leaf.name(), &mut reader) {
+        Ok(is_leaf) => Ok(is_leaf),
+        Err(trouble) => left_out(rt, leaf, &trouble),
+    }
+}
+
+// Tells why a leaf is not shown. An error where memory ran out.
+fn left_out(rt: &HostRuntime, leaf: Source<'_>, trouble: &Trouble) -> Result<bool, Failed> {
+    let failed = complain(rt, leaf.name(), trouble);
+    match trouble {
+        Trouble::Memory(_) => Err(failed),
+        _ => Ok(false),
     }
 }
 
