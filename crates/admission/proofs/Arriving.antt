@@ -7,8 +7,8 @@ use Rattle.rows.specs.Counting.{is_on_frame}
 use Rattle.rows.specs.Lists.{written}
 use Rattle.rows.specs.Times.{most_rows}
 use Rattle.bounds.specs.Meaning.{Meaning}
-use Rattle.verdicts.specs.declared.verdicts.Finding.{Finding}
-use Rattle.verdicts.specs.Found.{tells}
+use Rattle.rows.specs.declared.verdicts.Finding.{Finding}
+use Rattle.rows.specs.Found.{tells}
 use Rattle.findings.specs.Countable.{StandOn, CanBeCounted}
 use Rattle.findings.specs.Findings.{row_finding}
 use Rattle.findings.specs.Tables.{findings_of}

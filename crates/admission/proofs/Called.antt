@@ -6,7 +6,7 @@ use Rattle.std.proofs.lemmas.Bool.{and_from, le-leb, lt-leb, not-false}
 use Rattle.std.proofs.lemmas.List.{get_or-map, get_or-take, length-take-le}
 use Rattle.std.proofs.lemmas.List.Elements.{All-weaker}
 use Rattle.rows.specs.declared.refusals.Fault.{Fault}
-use Rattle.rows.specs.declared.refusals.Refusal.TheVariants.{Overload}
+use Rattle.rows.specs.declared.refusals.Refusal.TheVariants.{Overload, FullTable, NoRank}
 use Rattle.rows.specs.declared.tasks.Numbers.{Numbers}
 use Rattle.rows.specs.declared.tasks.Row.{Row}
 use Rattle.rows.specs.Answers.{check, check_each, checked, gives, refuses, refuses_at}
@@ -17,8 +17,8 @@ use Rattle.rows.specs.Times.{most_rows}
 use Rattle.rows.proofs.Checks.{given_is, passed_first, passes_on, places_pass}
 use Rattle.rows.proofs.SameRow.{rows_of_plain}
 use Rattle.bounds.specs.Meaning.{Meaning}
-use Rattle.verdicts.specs.declared.verdicts.Finding.{Finding}
-use Rattle.verdicts.specs.Found.{Found, tells, is_met, is_miss}
+use Rattle.rows.specs.declared.verdicts.Finding.{Finding}
+use Rattle.rows.specs.Found.{Found, tells, is_met, is_miss}
 use Rattle.findings.specs.Findings.{row_finding}
 use Rattle.findings.proofs.Tables.{finding_below_at}
 use Rattle.findings.specs.Tables.{findings_of}
@@ -50,9 +50,9 @@ kept_sound m h t keeps = record {
 
 -- a call that refuses as its checks do leaves the bench, and does what the book says
 pub refuses_so : {B : Type 0} (m : Meaning) (c : Call) (now : Held B) (x : Fault) → now ≡ bench m now.bound now.book
-    → refuses (number x.refusal) x.at ≡ checked (checks_of m now.book c) (told m now.book c) → Does m c now now (Refused x)
+    → refuses x.refusal x.at ≡ checked (checks_of m now.book c) (told m now.book c) → Does m c now now (Refused x)
 refuses_so m c now x kept refused =
-    let s = step_refused m now.book c (number x.refusal) x.at refused in
+    let s = step_refused m now.book c x.refusal x.at refused in
     record { becomes = kept ∙ ap (λ p. bench m now.bound p.0) (sym s); replies = ap (λ p. p.1) (sym s) }
 
 -- a call that passes its checks does what the book says where it comes to the book once it is done
@@ -84,23 +84,23 @@ module _ (m : Meaning) (b : Book) (rank : ℕ) (n : Numbers) (r : Row) (judged :
 
   module _ (room : length b.rows + 1 ≤ most_rows) (low : 1 ≤ rank) (high : rank ≤ length b.rows + 1) where
     -- the answer is that of the last check
-    last_check : (y : Told) → checked (checks_of m b (Admit rank n)) y ≡ checked (check_each is_miss 11 (findings_of m b.frame (with_newcomer rank n b.rows)) ∷ []) y
+    last_check : (y : Told) → checked (checks_of m b (Admit rank n)) y ≡ checked (check_each is_miss Overload (findings_of m b.frame (with_newcomer rank n b.rows)) ∷ []) y
     last_check y =
-        let last = check_each is_miss 11 (findings_of m b.frame (with_newcomer rank n b.rows)) in
-        sym (passed_first (flaw_checks (frame_flaws b.frame) n 0) (check (leb most_rows (length b.rows)) 9 0 ∷ check (not (is_rank (length b.rows + 1) rank)) 10 0 ∷ last ∷ []) (plain r) n judged y)
-        ∙ passes_on (leb most_rows (length b.rows)) 9 0 (checked (check (not (is_rank (length b.rows + 1) rank)) 10 0 ∷ last ∷ []) y) (lt-leb most_rows (length b.rows) (omega (arith, room)))
-        ∙ passes_on (not (is_rank (length b.rows + 1) rank)) 10 0 (checked (last ∷ []) y) (is_within (length b.rows + 1) rank low high)
+        let last = check_each is_miss Overload (findings_of m b.frame (with_newcomer rank n b.rows)) in
+        sym (passed_first (flaw_checks (frame_flaws b.frame) n 0) (check (leb most_rows (length b.rows)) FullTable 0 ∷ check (not (is_rank (length b.rows + 1) rank)) NoRank 0 ∷ last ∷ []) (plain r) n judged y)
+        ∙ passes_on (leb most_rows (length b.rows)) FullTable 0 (checked (check (not (is_rank (length b.rows + 1) rank)) NoRank 0 ∷ last ∷ []) y) (lt-leb most_rows (length b.rows) (omega (arith, room)))
+        ∙ passes_on (not (is_rank (length b.rows + 1) rank)) NoRank 0 (checked (last ∷ []) y) (is_within (length b.rows + 1) rank low high)
 
     module _ (rows : List Row) (with : rows ≡ insert b.rows (rank - 1) r) where
       -- it is admitted where with it no row misses
       pub admits : position is_miss (findings_of m b.frame rows) ≡ None → gives done ≡ checked (checks_of m b (Admit rank n)) done
       admits none =
-          sym (last_check done ∙ ap (λ rs. checked (check_each is_miss 11 (findings_of m b.frame rs) ∷ []) done) (newcomer_is ∙ sym with) ∙ ap (λ o. refuses_at 11 (option_map (λ i. i + 1) o) (gives done)) none)
+          sym (last_check done ∙ ap (λ rs. checked (check_each is_miss Overload (findings_of m b.frame rs) ∷ []) done) (newcomer_is ∙ sym with) ∙ ap (λ o. refuses_at Overload (option_map (λ i. i + 1) o) (gives done)) none)
 
       -- and refused where one does
-      pub overloads : (i : ℕ) → position is_miss (findings_of m b.frame rows) ≡ Some i → refuses 11 (i + 1) ≡ checked (checks_of m b (Admit rank n)) done
+      pub overloads : (i : ℕ) → position is_miss (findings_of m b.frame rows) ≡ Some i → refuses Overload (i + 1) ≡ checked (checks_of m b (Admit rank n)) done
       overloads i some =
-          sym (last_check done ∙ ap (λ rs. checked (check_each is_miss 11 (findings_of m b.frame rs) ∷ []) done) (newcomer_is ∙ sym with) ∙ ap (λ o. refuses_at 11 (option_map (λ i. i + 1) o) (gives done)) some)
+          sym (last_check done ∙ ap (λ rs. checked (check_each is_miss Overload (findings_of m b.frame rs) ∷ []) done) (newcomer_is ∙ sym with) ∙ ap (λ o. refuses_at Overload (option_map (λ i. i + 1) o) (gives done)) some)
 
 -- a row taken out at a rank
 pub without_is : (rank : ℕ) (rows : List Row) → 1 ≤ rank → remove rows (rank - 1) ≡ without rank rows
@@ -141,7 +141,7 @@ module _ (m : Meaning) (h : ℕ) (t : Table) (keeps : Keeps m h t) (rank : ℕ) 
       let there : at_rank rank rows ≡ Some r = rank_place rows rank d low (omega (arith, many_rows m h t keeps)) ∙ ap Some row_is in
       let tells_so : told m (book h rows) (Inquire rank) ≡ row_found (plain r) (row_finding m h r (take (rank - 1) rows)) =
       ap (λ o. unwrap_or (option_map (λ r. row_found (plain r) (row_finding m h r (take (rank - 1) rows))) o) done) there in
-      sym (passes_on (not (is_rank (length rows) rank)) 10 0 (gives (told m (book h rows) (Inquire rank))) (is_within (length rows) rank low (omega (arith, many_rows m h t keeps)))
+      sym (passes_on (not (is_rank (length rows) rank)) NoRank 0 (gives (told m (book h rows) (Inquire rank))) (is_within (length rows) rank low (omega (arith, many_rows m h t keeps)))
       ∙ ap gives (tells_so ∙ ap (row_found (plain r)) (sym finding_is)))
 
 -- a table with a row of four numbers put in at a rank

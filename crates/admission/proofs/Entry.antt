@@ -2,6 +2,7 @@
 use Rattle.std.proofs.Common.{◌≡◌, ◌≢◌, ℕ, ◌+◌, ◌<◌, ◌≤◌, Bool, true, false, not, eqb, leb, List, [], ◌∷◌, ◌++◌, length, Some, None, Option, refl, ap, arith}
 use Rattle.std.specs.List.{list_all, cons_option}
 use Rattle.std.proofs.lemmas.Bool.{and_parts, both_ways, not-false, not-true, eq-eqb, eqb-false, ltb-false, leb-false, leb-true}
+use Rattle.rows.specs.declared.refusals.Refusal.TheVariants.{FullTable, NoRank}
 use Rattle.rows.specs.declared.tasks.Numbers.{Numbers}
 use Rattle.rows.specs.declared.tasks.Row.{Row}
 use Rattle.rows.specs.Answers.{Answer, gives, refuses, refuses_at, Check, check, checked, Passes}
@@ -37,7 +38,7 @@ left_to {A = A} (c ∷ cs) ds a y others answered =
 -- what is checked of an admit but for overload
 abbrev pub entry_checks : Book → ℕ → Numbers → List Check
 entry_checks b rank n =
-    flaw_checks (frame_flaws b.frame) n 0 ++ check (leb most_rows (length b.rows)) 9 0 ∷ check (not (is_rank (length b.rows + 1) rank)) 10 0 ∷ []
+    flaw_checks (frame_flaws b.frame) n 0 ++ check (leb most_rows (length b.rows)) FullTable 0 ∷ check (not (is_rank (length b.rows + 1) rank)) NoRank 0 ∷ []
 
 -- the four numbers are a row on the frame, there is a place for it, and a rank
 pub record Enters (b : Book) (rank : ℕ) (n : Numbers) : Type 0 where

@@ -6,7 +6,7 @@ use Rattle.std.proofs.lemmas.List.{append_assoc, append-nil, get_or_at, length-a
 use Rattle.std.proofs.lemmas.List.Elements.{All-nil}
 use Rattle.rows.specs.declared.tasks.Row.{Row}
 use Rattle.bounds.specs.Meaning.{Meaning}
-use Rattle.verdicts.specs.Found.{Found, is_met}
+use Rattle.rows.specs.Found.{Found, is_met}
 use Rattle.findings.specs.Findings.{row_finding}
 use Rattle.findings.specs.Tables.{findings_below, findings_of}
 use Rattle.findings.proofs.Tables.{length_findings_below, finding_below_at}

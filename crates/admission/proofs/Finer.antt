@@ -3,6 +3,7 @@ use Rattle.std.proofs.Common.{◌≡◌, ℕ, ◌+◌, ◌≤◌, true, false, L
 use Rattle.std.specs.List.{AllPass}
 use Rattle.std.proofs.lemmas.Bool.{not_from_true}
 use Rattle.std.proofs.lemmas.List.Elements.{All-weaker}
+use Rattle.rows.specs.declared.refusals.Refusal.TheVariants.{Overload}
 use Rattle.rows.specs.declared.tasks.Numbers.{Numbers}
 use Rattle.rows.specs.declared.tasks.Row.{Row}
 use Rattle.rows.specs.Answers.{gives}
@@ -15,7 +16,7 @@ use Rattle.brackets.specs.Bracketing.{IsNoLater}
 use Rattle.brackets.proofs.Earlier.{some_earlier}
 use Rattle.brackets.proofs.Tails.{finer_tails}
 use Rattle.admission.specs.declared.calls.Call.TheVariants.{Admit}
-use Rattle.verdicts.specs.Found.{is_met, is_miss}
+use Rattle.rows.specs.Found.{is_met, is_miss}
 use Rattle.admission.specs.Books.{Book, with_newcomer, step}
 use Rattle.admission.specs.Promises.{FinerAdmits, FinerRests}
 use Rattle.admission.specs.Replies.{done}
@@ -41,7 +42,7 @@ finer_admit k k' b rank n low order stand admits =
     let none = All-weaker (λ f. is_met f ≡ true) (λ f. is_miss f ≡ false) (λ f. not_from_true (is_met f)) (findings_of m' b.frame rows) meet in
     step_answers m' b (Admit rank n)
     ∙ sym (passed_first (entry_checks b rank n) (overload_check m' b rank n ∷ []) tt tt passed.0 done)
-    ∙ places_pass_on is_miss (λ i. i + 1) (findings_of m' b.frame rows) 11 (gives done) none
+    ∙ places_pass_on is_miss (λ i. i + 1) (findings_of m' b.frame rows) Overload (gives done) none
 
 -- so it is between benches whose books have come to agree
 pub finer_admits : FinerAdmits

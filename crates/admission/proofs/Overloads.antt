@@ -5,6 +5,7 @@ use Rattle.std.specs.List.{AllPass}
 use Rattle.std.proofs.lemmas.Bool.{not-false}
 use Rattle.std.proofs.lemmas.List.{drop_at, get_or_append_left, length-take-le}
 use Rattle.std.proofs.lemmas.List.Quantifiers.{position-Some}
+use Rattle.rows.specs.declared.refusals.Refusal.TheVariants.{Overload}
 use Rattle.rows.specs.declared.tasks.Numbers.{Numbers}
 use Rattle.rows.specs.declared.tasks.Row.{Row}
 use Rattle.rows.specs.Answers.{gives, refuses, refuses_at, check_each, checked}
@@ -18,7 +19,7 @@ use Rattle.findings.proofs.Tables.{length_findings_below}
 use Rattle.brackets.proofs.Bracket.{brackets}
 use Rattle.admission.specs.declared.calls.Call.{Call}
 use Rattle.admission.specs.declared.calls.Call.TheVariants.{Frame, Admit, Dismiss, Inquire}
-use Rattle.verdicts.specs.Found.{is_met, is_miss}
+use Rattle.rows.specs.Found.{is_met, is_miss}
 use Rattle.admission.specs.Books.{Book, with_newcomer, checks_of, first_book, told, step}
 use Rattle.admission.specs.Promises.{NamesMiss, OverloadsMiss}
 use Rattle.admission.specs.Replies.{Told}
@@ -72,23 +73,23 @@ module _ (m : Meaning) (h : ℕ) where
       }
 
   -- and where the check of the findings refuses, it names one
-  refusal_names : Laws m → (rows : List Row) (at : ℕ) (y : Told) → StandOn h rows → refuses 11 at ≡ checked (check_each is_miss 11 (findings_of m h rows) ∷ []) y → NamesMiss m h rows at
+  refusal_names : Laws m → (rows : List Row) (at : ℕ) (y : Told) → StandOn h rows → refuses Overload at ≡ checked (check_each is_miss Overload (findings_of m h rows) ∷ []) y → NamesMiss m h rows at
   refusal_names laws rows at y stand refused = by (position is_miss (findings_of m h rows)) refl refused
     where
-      by : (o : Option ℕ) → position is_miss (findings_of m h rows) ≡ o → refuses 11 at ≡ refuses_at 11 (option_map (λ i. i + 1) o) (gives y) → NamesMiss m h rows at
+      by : (o : Option ℕ) → position is_miss (findings_of m h rows) ≡ o → refuses Overload at ≡ refuses_at Overload (option_map (λ i. i + 1) o) (gives y) → NamesMiss m h rows at
       by None first refused = cc
       by (Some i) first refused = let place : i + 1 ≡ at = cc in subst (NamesMiss m h rows) place (names_miss laws rows i stand first)
 
 -- a call that is refused for overload is an admit, and the refusal names such a row
-overload_misses : (m : Meaning) → Laws m → (b : Book) → StandOn b.frame b.rows → (c : Call) (at : ℕ) → refuses 11 at ≡ checked (checks_of m b c) (told m b c)
+overload_misses : (m : Meaning) → Laws m → (b : Book) → StandOn b.frame b.rows → (c : Call) (at : ℕ) → refuses Overload at ≡ checked (checks_of m b c) (told m b c)
     → (rank : ℕ) × (n : Numbers) × (c ≡ Admit rank n) × NamesMiss m b.frame (with_newcomer rank n b.rows) at
 overload_misses m laws b stand (Admit rank n) at refused =
-    let passed = left_to (entry_checks b rank n) (overload_check m b rank n ∷ []) (refuses 11 at) (told m b (Admit rank n)) refl refused in
+    let passed = left_to (entry_checks b rank n) (overload_check m b rank n ∷ []) (refuses Overload at) (told m b (Admit rank n)) refl refused in
     let stands = stands_with b rank n stand (enters b rank n passed.0) in
     (rank, n, refl, refusal_names m b.frame laws (with_newcomer rank n b.rows) at (told m b (Admit rank n)) stands passed.1)
-overload_misses m laws b stand (Frame h) at refused = let end = (left_to (checks_of m b (Frame h)) [] (refuses 11 at) (told m b (Frame h)) refl refused).1 in cc
-overload_misses m laws b stand (Dismiss rank) at refused = let end = (left_to (checks_of m b (Dismiss rank)) [] (refuses 11 at) (told m b (Dismiss rank)) refl refused).1 in cc
-overload_misses m laws b stand (Inquire rank) at refused = let end = (left_to (checks_of m b (Inquire rank)) [] (refuses 11 at) (told m b (Inquire rank)) refl refused).1 in cc
+overload_misses m laws b stand (Frame h) at refused = let end = (left_to (checks_of m b (Frame h)) [] (refuses Overload at) (told m b (Frame h)) refl refused).1 in cc
+overload_misses m laws b stand (Dismiss rank) at refused = let end = (left_to (checks_of m b (Dismiss rank)) [] (refuses Overload at) (told m b (Dismiss rank)) refl refused).1 in cc
+overload_misses m laws b stand (Inquire rank) at refused = let end = (left_to (checks_of m b (Inquire rank)) [] (refuses Overload at) (told m b (Inquire rank)) refl refused).1 in cc
 
 -- the answer to a call stands at its place among the answers
 pub answer_at : (m : Meaning) (before after : List Call) (c : Call) → at_rank (length before + 1) (answers_to m (before ++ c ∷ after)) ≡ Some (step m (book_after m before) c).1
@@ -104,5 +105,5 @@ pub overloads_miss : (m : Meaning) → Laws m → OverloadsMiss m
 overloads_miss m laws before after c at there =
     let b = book_after m before in
     let same = sym there ∙ answer_at m before after c in
-    let answered : refuses 11 at ≡ (step m b c).1 = cc in
+    let answered : refuses Overload at ≡ (step m b c).1 = cc in
     overload_misses m laws b (runs_sound m before).stand c at (answered ∙ step_answers m b c)

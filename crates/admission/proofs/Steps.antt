@@ -5,6 +5,8 @@ use Rattle.std.proofs.Math.Seq.{split_at}
 use Rattle.std.proofs.lemmas.Bool.{not-false, ltb-false}
 use Rattle.std.proofs.lemmas.List.{append_assoc, append-nil, drop_at, length-append, length-drop, length-take-le, nil_from_length, take_at}
 use Rattle.std.proofs.lemmas.List.Elements.{All-nil, All-cons, All-append, All-take, All-drop, All-weaker, All-head, All-tail}
+use Rattle.rows.specs.declared.refusals.Refusal.{Refusal}
+use Rattle.rows.specs.declared.refusals.Refusal.TheVariants.{Overload}
 use Rattle.rows.specs.declared.tasks.Numbers.{Numbers}
 use Rattle.rows.specs.declared.tasks.Row.{Row}
 use Rattle.rows.specs.Answers.{Answer, gives, refuses, Check, check_each, checked, Passes}
@@ -12,7 +14,7 @@ use Rattle.rows.specs.Counting.{is_on_frame}
 use Rattle.rows.specs.Times.{is_frame, most_rows}
 use Rattle.rows.proofs.Checks.{first_passes, each_passes}
 use Rattle.bounds.specs.Meaning.{Meaning}
-use Rattle.verdicts.specs.Found.{Found, is_met, is_miss}
+use Rattle.rows.specs.Found.{Found, is_met, is_miss}
 use Rattle.findings.specs.Countable.{StandOn}
 use Rattle.findings.specs.Findings.{row_finding}
 use Rattle.findings.specs.Tables.{findings_below, findings_of}
@@ -37,7 +39,7 @@ pub step_given : (m : Meaning) (b : Book) (c : Call) (x : Told) → gives x ≡ 
 step_given m b c x given = rw (sym given) refl
 
 -- and one that is refused the book as it was
-pub step_refused : (m : Meaning) (b : Book) (c : Call) (n at : ℕ) → refuses n at ≡ checked (checks_of m b c) (told m b c) → step m b c ≡ (b, refuses n at)
+pub step_refused : (m : Meaning) (b : Book) (c : Call) (n : Refusal) (at : ℕ) → refuses n at ≡ checked (checks_of m b c) (told m b c) → step m b c ≡ (b, refuses n at)
 step_refused m b c n at refused = rw (sym refused) refl
 
 -- the answer to a call is that of its checks
@@ -133,14 +135,14 @@ with_sound m b rank n sound entry met =
 
 -- the checks of an admit end with that for overload
 abbrev pub overload_check : Meaning → Book → ℕ → Numbers → Check
-overload_check m b rank n = check_each is_miss 11 (findings_of m b.frame (with_newcomer rank n b.rows))
+overload_check m b rank n = check_each is_miss Overload (findings_of m b.frame (with_newcomer rank n b.rows))
 
 -- an admit that is answered has passed its checks but for overload: the newcomer enters, and with it every row meets
 pub admitted : (m : Meaning) (b : Book) (rank : ℕ) (n : Numbers) (x y : Told) → gives x ≡ checked (checks_of m b (Admit rank n)) y → Passes (entry_checks b rank n) × Enters b rank n × AllPass is_met (findings_of m b.frame (with_newcomer rank n b.rows))
 admitted m b rank n x y given =
     let findings = findings_of m b.frame (with_newcomer rank n b.rows) in
     let parts = left_to (entry_checks b rank n) (overload_check m b rank n ∷ []) (gives x) y refl given in
-    let meet = (each_passes is_miss findings 11 x (gives y) parts.1).0 in
+    let meet = (each_passes is_miss findings Overload x (gives y) parts.1).0 in
     (parts.0, enters b rank n parts.0, All-weaker (λ f. is_miss f ≡ false) (λ f. is_met f ≡ true) (λ f. not-false (is_met f)) findings meet)
 
 -- a call that is answered keeps the book sound

@@ -4,7 +4,7 @@ use Rattle.std.specs.List.{AllPass}
 use Rattle.rows.specs.declared.tasks.Row.{Row}
 use Rattle.rows.specs.Times.{most_rows}
 use Rattle.bounds.specs.Meaning.{Meaning}
-use Rattle.verdicts.specs.Found.{Found, tells, is_met}
+use Rattle.rows.specs.Found.{Found, tells, is_met}
 use Rattle.findings.specs.Countable.{StandOn}
 use Rattle.findings.specs.Tables.{findings_of}
 use Rattle.admission.specs.declared.calls.Call.{Call}

@@ -1,6 +1,7 @@
 -- The book of a bench, and a call on it.
 use Rattle.std.specs.Prelude.{ℕ, ◌+◌, ◌-◌, Bool, not, ◌&&◌, List, [], ◌∷◌, ◌++◌, length, take, drop, nat_le, nat_lt}
 use Rattle.std.specs.Option.{option_map, unwrap_or}
+use Rattle.rows.specs.declared.refusals.Refusal.TheVariants.{BadFrame, StandingRows, FullTable, NoRank, Overload}
 use Rattle.rows.specs.declared.tasks.Numbers.{Numbers}
 use Rattle.rows.specs.declared.tasks.Row.{Row}
 use Rattle.rows.specs.Answers.{Answer, gives, refuses, Check, check, check_each, checked}
@@ -8,7 +9,7 @@ use Rattle.rows.specs.Judging.{plain, rows_of, frame_flaws, flaw_checks}
 use Rattle.rows.specs.Lists.{at_rank}
 use Rattle.rows.specs.Times.{is_frame, most_rows}
 use Rattle.bounds.specs.Meaning.{Meaning}
-use Rattle.verdicts.specs.Found.{is_miss}
+use Rattle.rows.specs.Found.{is_miss}
 use Rattle.findings.specs.Findings.{row_finding}
 use Rattle.findings.specs.Tables.{findings_of}
 use Rattle.admission.specs.declared.calls.Call.{Call}
@@ -43,15 +44,15 @@ without rank rows = take (rank - 1) rows ++ drop rank rows
 -- what is checked of a call on a book, in order. Overload, 11, tells the smallest rank at which a row misses with the
 -- newcomer in place; nothing else tells a rank
 abbrev pub checks_of : Meaning → Book → Call → List Check
-checks_of m b (Frame h) = check (not (is_frame h)) 1 0 ∷ check (nat_lt 0 (length b.rows)) 2 0 ∷ []
+checks_of m b (Frame h) = check (not (is_frame h)) BadFrame 0 ∷ check (nat_lt 0 (length b.rows)) StandingRows 0 ∷ []
 checks_of m b (Admit rank n) =
     flaw_checks (frame_flaws b.frame) n 0
-    ++ check (nat_le most_rows (length b.rows)) 9 0
-    ∷ check (not (is_rank (length b.rows + 1) rank)) 10 0
-    ∷ check_each is_miss 11 (findings_of m b.frame (with_newcomer rank n b.rows))
+    ++ check (nat_le most_rows (length b.rows)) FullTable 0
+    ∷ check (not (is_rank (length b.rows + 1) rank)) NoRank 0
+    ∷ check_each is_miss Overload (findings_of m b.frame (with_newcomer rank n b.rows))
     ∷ []
-checks_of m b (Dismiss rank) = check (not (is_rank (length b.rows) rank)) 10 0 ∷ []
-checks_of m b (Inquire rank) = check (not (is_rank (length b.rows) rank)) 10 0 ∷ []
+checks_of m b (Dismiss rank) = check (not (is_rank (length b.rows) rank)) NoRank 0 ∷ []
+checks_of m b (Inquire rank) = check (not (is_rank (length b.rows) rank)) NoRank 0 ∷ []
 
 -- the book once a call on it is done
 abbrev pub once_done : Book → Call → Book

@@ -1,6 +1,7 @@
 -- What holds of a bench after every list of calls.
 use Rattle.std.specs.Prelude.{◌≡◌, ℕ, ◌+◌, ◌≤◌, List, [], ◌∷◌, ◌++◌, length, Some, None, nat_lt}
 use Rattle.std.specs.List.{AllPass}
+use Rattle.rows.specs.declared.refusals.Refusal.TheVariants.{Overload, ShortList}
 use Rattle.rows.specs.declared.tasks.Numbers.{Numbers}
 use Rattle.rows.specs.declared.tasks.Row.{Row}
 use Rattle.rows.specs.Answers.{Check, check, gives, refuses}
@@ -13,14 +14,14 @@ use Rattle.findings.specs.Tables.{findings_of}
 use Rattle.brackets.specs.Bracketing.{IsNoLater, slow_rest}
 use Rattle.admission.specs.declared.calls.Call.{Call}
 use Rattle.admission.specs.declared.calls.Call.TheVariants.{Admit}
-use Rattle.verdicts.specs.Found.{is_met}
+use Rattle.rows.specs.Found.{is_met}
 use Rattle.admission.specs.Books.{step, with_newcomer}
 use Rattle.admission.specs.Replies.{done}
 use Rattle.admission.specs.Runs.{book_after, answers_to}
 
 -- what is checked of a list of calls that is to be replied to into so many places: short list
 abbrev pub play_checks : List Call → ℕ → List Check
-play_checks calls places = check (nat_lt places (length calls)) 12 0 ∷ []
+play_checks calls places = check (nat_lt places (length calls)) ShortList 0 ∷ []
 
 -- a row meets by a bound of accuracy k and in exact steps: exactly it rests no later than by the bound, and by the
 -- bound no later than exactly at speed k / (k + 1), where it rests at that speed
@@ -55,7 +56,7 @@ pub record NamesMiss (m : Meaning) (h : ℕ) (rows : List Row) (at : ℕ) : Type
 abbrev pub OverloadsMiss : Meaning → Type 0
 OverloadsMiss m =
     (before after : List Call) (c : Call) (at : ℕ)
-    → at_rank (length before + 1) (answers_to m (before ++ c ∷ after)) ≡ Some (refuses 11 at)
+    → at_rank (length before + 1) (answers_to m (before ++ c ∷ after)) ≡ Some (refuses Overload at)
     → (rank : ℕ) × (n : Numbers) × (c ≡ Admit rank n)
     × NamesMiss m (book_after m before).frame (with_newcomer rank n (book_after m before).rows) at
 

@@ -6,8 +6,8 @@ use Rattle.rows.specs.declared.tasks.Row.{Row}
 use Rattle.rows.specs.Answers.{Answer, gives, refuses}
 use Rattle.rows.specs.Judging.{plain}
 use Rattle.rows.specs.Refusals.{number}
-use Rattle.verdicts.specs.declared.verdicts.Finding.{Finding}
-use Rattle.verdicts.specs.Found.{Found, tells}
+use Rattle.rows.specs.declared.verdicts.Finding.{Finding}
+use Rattle.rows.specs.Found.{Found, tells}
 use Rattle.admission.specs.declared.calls.Reply.{Reply}
 use Rattle.admission.specs.declared.calls.Reply.TheVariants.{Done, Found as FoundRow, Refused}
 
@@ -20,7 +20,7 @@ pub data Told : Type 0 where
 abbrev pub answer_of : Reply → Answer Told
 answer_of Done = gives done
 answer_of (FoundRow row finding) = gives (row_found (plain row) (tells finding))
-answer_of (Refused fault) = refuses (number fault.refusal) fault.at
+answer_of (Refused fault) = refuses fault.refusal fault.at
 
 -- the reply that the result of a call is, where it has nothing to tell but that it is done
 abbrev pub as_done : Result (Unit {0}) Fault → Reply

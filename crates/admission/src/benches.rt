@@ -2,9 +2,8 @@
 use crate::calls::{Call, Reply};
 use crate::keeping::Table;
 use bounds::Bound;
-use rows::{Fault, MOST_ROWS, Numbers, Refusal, Row, is_frame};
+use rows::{Fault, Finding, MOST_ROWS, Numbers, Refusal, Row, is_frame};
 use std::marker::Model;
-use verdicts::Finding;
 
 /// An admission bench (docs/RULES.md, The bench): a table of at most 32 rows on a frame, on which
 /// tasks arrive and leave, with the finding of each row by a bound. Every row that stands meets.
@@ -33,7 +32,7 @@ impl<B: Bound> Model for Bench<B> {
 impl<B: Bound> Bench<B> {
     ghost use Rattle.std.specs.Prelude.{◌≡◌, map, OnErr};
     ghost use Rattle.std.specs.List.{AllPass};
-    ghost use Rattle.verdicts.specs.Found.{tells, is_met};
+    ghost use Rattle.rows.specs.Found.{tells, is_met};
     ghost use Rattle.findings.specs.Countable.{CanBeCounted};
     ghost use Rattle.findings.specs.Tables.{findings_of};
     ghost use Rattle.rows.specs.Times.{most_rows};

@@ -1,8 +1,7 @@
 // The calls that a bench takes, as values, and what it replies.
 ghost use Rattle.std.specs.Prelude.{◌≡◌};
 
-use rows::{Fault, Numbers, Row};
-use verdicts::Finding;
+use rows::{Fault, Finding, Numbers, Row};
 
 /// A call to a bench (docs/RULES.md, The bench). Ranks count from 1, the highest priority.
 #[derive(Clone, Copy, PartialEq, Eq, Debug)]

@@ -4,7 +4,7 @@ ghost use Rattle.std.specs.List.{insert, remove};
 ghost use Rattle.rows.specs.Counting.{is_on_frame};
 ghost use Rattle.rows.specs.Lists.{written};
 ghost use Rattle.rows.specs.Times.{most_rows};
-ghost use Rattle.verdicts.specs.Found.{tells, is_miss};
+ghost use Rattle.rows.specs.Found.{tells, is_miss};
 ghost use Rattle.findings.specs.Countable.{CanBeCounted};
 ghost use Rattle.findings.specs.Tables.{findings_of};
 ghost use Rattle.admission.specs.Benches.{IsCounted, table_rows, table_findings};
@@ -12,8 +12,7 @@ ghost use Rattle.admission.specs.Benches.{IsCounted, table_rows, table_findings}
 use crate::edits::{put_in, take_out};
 use bounds::Bound;
 use findings::{find, recount};
-use rows::{MOST_ROWS, Row};
-use verdicts::{Finding, Verdict};
+use rows::{Finding, MOST_ROWS, Row, Verdict};
 
 // Whether a finding says that its row misses.
 fn is_miss(finding: &Finding) -> bool

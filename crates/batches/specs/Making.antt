@@ -1,5 +1,6 @@
 -- What is answered to the two numbers of such a bound, and what a caller may know of it as a value.
 use Rattle.std.specs.Prelude.{ℕ, Bool, ◌&&◌, Ok, Err, Result, nat_le, if◌then◌else◌}
+use Rattle.rows.specs.declared.refusals.Refusal.TheVariants.{BadAccuracy}
 use Rattle.rows.specs.Refusals.{number}
 use Rattle.rows.specs.Times.{horizon}
 use Rattle.bounds.specs.Meaning.{is_accuracy}
@@ -26,9 +27,9 @@ pub data Outcome : Type 0 where
 -- what a result answers
 abbrev pub outcome_of : Result Batches BatchError → Outcome
 outcome_of (Ok b) = makes (parameters_of b)
-outcome_of (Err (Refused f)) = refuses (number f.refusal) f.at
+outcome_of (Err (Refused f)) = refuses f.refusal f.at
 outcome_of (Err (BadSize g)) = denies g
 
 -- what is answered to an accuracy and a size of a batch: the accuracy is checked first
 abbrev pub outcome_for : ℕ → ℕ → Outcome
-outcome_for k g = if is_accuracy k then (if is_size g then makes (parameters k g) else denies g) else refuses 3 0
+outcome_for k g = if is_accuracy k then (if is_size g then makes (parameters k g) else denies g) else refuses BadAccuracy 0

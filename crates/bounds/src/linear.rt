@@ -24,7 +24,7 @@ impl LinearTail {
     /// The linear tail of accuracy k; refused with 3, bad accuracy, at 0 outside 1 to 64.
     pub fn new(accuracy: u32) -> Result<LinearTail, Fault>
         ensures { answer accuracy_of result
-            ≡ checked (check (not (is_accuracy accuracy)) 3 0 ∷ []) accuracy }
+            ≡ checked (check (not (is_accuracy accuracy)) BadAccuracy 0 ∷ []) accuracy }
     {
         if accuracy == 0 || accuracy > FINEST {
             return Err(Refusal::BadAccuracy.at(0));

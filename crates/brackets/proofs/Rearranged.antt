@@ -6,7 +6,7 @@ use Rattle.rows.specs.Counting.{window}
 use Rattle.bounds.specs.Instants.{least, count}
 use Rattle.bounds.specs.Meaning.{Meaning}
 use Rattle.findings.specs.Demand.{load, is_rest}
-use Rattle.verdicts.specs.Found.{Found}
+use Rattle.rows.specs.Found.{Found}
 use Rattle.findings.specs.Findings.{first_rest, stop, points, is_tested}
 use Rattle.brackets.specs.Bracketing.{OrderIsFree}
 

@@ -1,6 +1,7 @@
 -- Accuracies tried in turn, from 1 on.
 use Rattle.std.proofs.Common.{◌≡◌, ℕ, ◌+◌, ◌<◌, ◌≤◌, false, not, List, [], ◌∷◌, is_some, Some, None, sym, ap, ◌∙◌, ⊎_elim, arith}
 use Rattle.std.proofs.lemmas.Bool.{cases_lt, le-leb, lt-leb}
+use Rattle.rows.specs.declared.refusals.Refusal.TheVariants.{BadAccuracy}
 use Rattle.rows.specs.declared.tasks.Row.{Row}
 use Rattle.rows.specs.Answers.{gives, check, checked}
 use Rattle.rows.proofs.Checks.{given_is, gives_any}
@@ -8,10 +9,10 @@ use Rattle.bounds.specs.Instants.{least, IsFirst}
 use Rattle.bounds.specs.Meaning.{finest, is_accuracy}
 use Rattle.bounds.specs.Supplied.{linear_tail}
 use Rattle.bounds.specs.Lemmas.Instants.{least_some, least_none}
-use Rattle.verdicts.specs.declared.verdicts.Finding.{Finding}
-use Rattle.verdicts.specs.declared.verdicts.Verdict.{Verdict}
+use Rattle.rows.specs.declared.verdicts.Finding.{Finding}
+use Rattle.rows.specs.declared.verdicts.Verdict.{Verdict}
 use Rattle.findings.specs.Asking.{question_checks}
-use Rattle.verdicts.specs.Found.{verdict_rest, tells}
+use Rattle.rows.specs.Found.{verdict_rest, tells}
 use Rattle.findings.specs.Findings.{row_finding}
 use Rattle.findings.specs.Countable.{StandOn}
 use Rattle.brackets.specs.Counting.{has_rest_by, MeetsFrom}
@@ -24,10 +25,10 @@ module _ (h : ℕ) (r : Row) (above : List Row) where
   Tried n = (k : ℕ) → 1 ≤ k → k < n → (gives (tt {0}) ≡ checked (question_checks h r above) tt) × (has_rest_by h r above k ≡ false)
 
   -- a finding by the tail made with an accuracy tells whether the row meets by it
-  pub tail_meets : (k a : ℕ) (f : Finding) (v : Verdict) → gives k ≡ checked (check (not (is_accuracy a)) 3 0 ∷ []) a
+  pub tail_meets : (k a : ℕ) (f : Finding) (v : Verdict) → gives k ≡ checked (check (not (is_accuracy a)) BadAccuracy 0 ∷ []) a
       → gives (tells f) ≡ checked (question_checks h r above) (row_finding (linear_tail k) h r above) → f.verdict ≡ v → has_rest_by h r above a ≡ is_some (verdict_rest v)
   tail_meets k a f v given answered is =
-      ap (has_rest_by h r above) (sym (given_is (check (not (is_accuracy a)) 3 0 ∷ []) k a given))
+      ap (has_rest_by h r above) (sym (given_is (check (not (is_accuracy a)) BadAccuracy 0 ∷ []) k a given))
       ∙ ap (λ x. is_some x.rest) (sym (given_is (question_checks h r above) _ _ answered))
       ∙ ap (λ u. is_some (verdict_rest u)) is
 

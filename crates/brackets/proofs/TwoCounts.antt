@@ -6,10 +6,10 @@ use Rattle.rows.proofs.Checks.{given_is, gives_any}
 use Rattle.bounds.specs.Laws.{Laws}
 use Rattle.bounds.specs.Meaning.{Meaning}
 use Rattle.bounds.specs.Supplied.{exact_steps}
-use Rattle.verdicts.specs.declared.verdicts.Finding.{Finding}
+use Rattle.rows.specs.declared.verdicts.Finding.{Finding}
 use Rattle.findings.specs.Asking.{question_checks}
 use Rattle.findings.specs.Exact.{exact_rest}
-use Rattle.verdicts.specs.Found.{Found, verdict_rest, tells}
+use Rattle.rows.specs.Found.{Found, verdict_rest, tells}
 use Rattle.findings.specs.Findings.{row_finding}
 use Rattle.findings.proofs.OnFrame.{above_stands}
 use Rattle.findings.proofs.FixedPoint.{exact_rest_is}

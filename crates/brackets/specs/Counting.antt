@@ -3,7 +3,7 @@ use Rattle.std.specs.Prelude.{◌≡◌, ℕ, ◌-◌, ◌≤◌, Bool, false, L
 use Rattle.rows.specs.declared.tasks.Row.{Row}
 use Rattle.bounds.specs.Meaning.{Meaning, finest}
 use Rattle.bounds.specs.Supplied.{exact_steps, linear_tail}
-use Rattle.verdicts.specs.Found.{Found, tells}
+use Rattle.rows.specs.Found.{Found, tells}
 use Rattle.findings.specs.Findings.{row_finding}
 use Rattle.brackets.specs.declared.counting.Counts.{Counts}
 

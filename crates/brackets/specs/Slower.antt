@@ -1,5 +1,6 @@
 -- The first rest on a slower processor, asked for: when that is refused, and what it says.
 use Rattle.std.specs.Prelude.{◌≡◌, ℕ, ◌≤◌, false, not, List, [], ◌∷◌, length, Option, MatchOption, nat_lt}
+use Rattle.rows.specs.declared.refusals.Refusal.TheVariants.{BadAccuracy, FullTable}
 use Rattle.rows.specs.declared.tasks.Row.{Row}
 use Rattle.rows.specs.Answers.{Check, check}
 use Rattle.rows.specs.Counting.{window}
@@ -14,7 +15,7 @@ use Rattle.brackets.specs.Bracketing.{IsNoLater, is_slow_rest}
 -- what is checked of the question, in order: bad accuracy; full table
 abbrev pub slow_checks : ℕ → List Row → List Check
 slow_checks k above =
-    check (not (is_accuracy k)) 3 0 ∷ check (nat_lt most_above (length above)) 9 0 ∷ []
+    check (not (is_accuracy k)) BadAccuracy 0 ∷ check (nat_lt most_above (length above)) FullTable 0 ∷ []
 
 -- a first rest at speed k / (k + 1) is an instant from 1 to the window at which the row rests at
 -- that speed, and no earlier one is; without one, the row rests at none of them

@@ -3,7 +3,7 @@ ghost use Rattle.std.specs.Prelude.{◌≡◌, IfOk};
 ghost use Rattle.rows.specs.Answers.{answer, checked};
 ghost use Rattle.findings.specs.Asking.{question_checks};
 ghost use Rattle.findings.specs.Exact.{exact_rest};
-ghost use Rattle.verdicts.specs.Found.{verdict_rest};
+ghost use Rattle.rows.specs.Found.{verdict_rest};
 ghost use Rattle.brackets.specs.Bracketing.{OrderIsFree, LiesBetween, Brackets, FewerIsNoLater};
 ghost use Rattle.brackets.specs.Counting.{both_found, gap, row_counts};
 

@@ -5,8 +5,7 @@ use crate::building::{meets, misses, row};
 use bounds::{ExactSteps, LinearTail};
 use brackets::{Counts, count_both, least_accuracy, slow_rest};
 use findings::find;
-use rows::{Fault, Refusal};
-use verdicts::Finding;
+use rows::{Fault, Finding, Refusal};
 
 // What is found about E in exact steps and by a linear tail, and the gap between.
 fn both(tail: &LinearTail) -> Result<(Finding, Finding, Option<u32>), Fault> {

@@ -3,8 +3,7 @@ ghost use Rattle.std.specs.Prelude.{◌+◌, ◌≤◌};
 ghost use Rattle.rows.specs.Times.{horizon};
 
 use leaves::HeadingNumbers;
-use rows::{Numbers, Row};
-use verdicts::{Finding, Verdict};
+use rows::{Finding, Numbers, Row, Verdict};
 
 // Four plain numbers: work, deadline, period and jitter.
 pub(crate) fn numbers(work: u32, deadline: u32, period: u32, jitter: u32) -> Numbers {

@@ -3,8 +3,7 @@
 use crate::agreeing::agree;
 use crate::building::{heading, meets, misses, row};
 use reading::read;
-use rows::{Fault, Refusal, Row};
-use verdicts::Finding;
+use rows::{Fault, Finding, Refusal, Row};
 use writing::file;
 
 // The frame, bound and accuracy of a heading.

@@ -4,9 +4,8 @@ use crate::agreeing::agree;
 use crate::bounded::tail;
 use crate::building::{meets, misses, numbers};
 use bounds::{Bound, ExactSteps, Supplied};
-use rows::{Fault, HORIZON, Numbers, Refusal};
+use rows::{Fault, Finding, HORIZON, Numbers, Refusal};
 use tables::survey;
-use verdicts::Finding;
 
 // The worked table: A, B and E, as plain numbers.
 pub(crate) const TABLE: [Numbers; 3] = [

@@ -2,8 +2,7 @@
 use crate::building::{heading, meets, row};
 use leaves::HeadingNumbers;
 use reading::read;
-use rows::{Fault, Row};
-use verdicts::Finding;
+use rows::{Fault, Finding, Row};
 use writing::{ClosedLeaf, FindingsLeaf, RowsLeaf, begin, file};
 
 // Three rows counted by the linear tail of accuracy 3 at frame 12: 90 bytes, and a byte to spare.

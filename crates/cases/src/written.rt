@@ -3,9 +3,8 @@
 use crate::agreeing::agree;
 use crate::building::{heading, meets, row};
 use reading::Phase;
-use rows::{Fault, HORIZON, Refusal, Row};
+use rows::{Fault, Finding, HORIZON, Refusal, Row, Verdict};
 use std::test::Fail;
-use verdicts::{Finding, Verdict};
 use writing::{ClosedLeaf, FindingsLeaf, RowsLeaf, begin};
 
 // The first bytes of a buffer.

@@ -6,6 +6,7 @@ use Rattle.std.specs.Result.{IsOk, is_err}
 use Rattle.std.proofs.lemmas.Bool.{le-ltb, ne_eqb, and_from, le-leb}
 use Rattle.std.proofs.lemmas.List.{drop_at, get_or_at, take_at, length-append, length-drop, length-take-le}
 use Rattle.std.proofs.lemmas.List.Elements.{All-weaker}
+use Rattle.rows.specs.declared.refusals.Refusal.TheVariants.{IdleRow, NoWindow, LateDeadline, LongPeriod, OffFrame, NoRank}
 use Rattle.rows.specs.declared.refusals.Fault.{Fault}
 use Rattle.rows.specs.declared.tasks.Numbers.{Numbers}
 use Rattle.rows.specs.declared.tasks.Row.{Row}
@@ -18,8 +19,8 @@ use Rattle.rows.specs.Times.{horizon, most_rows}
 use Rattle.rows.proofs.Checks.{first_passes, given_is, gives_any, passes_on, places_pass_on, refuses_any}
 use Rattle.rows.proofs.SameRow.{same_row}
 use Rattle.bounds.specs.Meaning.{Meaning}
-use Rattle.verdicts.specs.Found.{Found, tells, is_met, is_miss}
-use Rattle.verdicts.specs.declared.verdicts.Finding.{Finding}
+use Rattle.rows.specs.Found.{Found, tells, is_met, is_miss}
+use Rattle.rows.specs.declared.verdicts.Finding.{Finding}
 use Rattle.findings.specs.Countable.{CanBeCounted}
 use Rattle.findings.specs.Findings.{row_finding}
 use Rattle.findings.specs.Tables.{findings_of}
@@ -81,11 +82,11 @@ told_stands m rank now r f does =
 no_flaw : (h : ℕ) (r : Row) → is_on_frame h r ≡ true → gives (plain r) ≡ checked (flaw_checks (frame_flaws h) (plain r) 0) (plain r)
 no_flaw h r on =
     let n = plain r in
-    sym (passes_on (is_idle n) 4 0 _ (ne_eqb r.work 0 (λ e. omega (arith, e, r.busy)))
-    ∙ passes_on (has_no_window n) 5 0 _ (le-ltb r.deadline (r.work + r.jitter) r.roomy)
-    ∙ passes_on (has_late_deadline n) 6 0 _ (le-ltb r.period r.deadline r.timely)
-    ∙ passes_on (has_long_period n) 7 0 _ (le-ltb horizon r.period r.near)
-    ∙ passes_on (is_off_frame h n) 8 0 (gives n) (ap not on))
+    sym (passes_on (is_idle n) IdleRow 0 _ (ne_eqb r.work 0 (λ e. omega (arith, e, r.busy)))
+    ∙ passes_on (has_no_window n) NoWindow 0 _ (le-ltb r.deadline (r.work + r.jitter) r.roomy)
+    ∙ passes_on (has_late_deadline n) LateDeadline 0 _ (le-ltb r.period r.deadline r.timely)
+    ∙ passes_on (has_long_period n) LongPeriod 0 _ (le-ltb horizon r.period r.near)
+    ∙ passes_on (is_off_frame h n) OffFrame 0 (gives n) (ap not on))
 
 -- where all findings are met, none is a miss
 no_miss : (fs : List Found) → AllPass is_met fs → position is_miss fs ≡ None
@@ -108,7 +109,7 @@ module _ (m : Meaning) (b : Book) (rank : ℕ) (r : Row) (there : StandsAt rank 
   passes = ap not (and_from (leb 1 rank) (leb rank (length b.rows)) (le-leb 1 rank there.low) (le-leb rank (length b.rows) there.high))
 
   pub dismissed : step m b (Dismiss rank) ≡ (without_it rank b, gives done)
-  dismissed = step_given m b (Dismiss rank) done (sym (passes_on (not (is_rank (length b.rows) rank)) 10 0 (gives done) passes))
+  dismissed = step_given m b (Dismiss rank) done (sym (passes_on (not (is_rank (length b.rows) rank)) NoRank 0 (gives done) passes))
 
   -- with the row put in again, the rows are those that stood
   put_back : b.rows ≡ insert (without rank b.rows) (rank - 1) r
@@ -140,7 +141,7 @@ module _ (m : Meaning) (b : Book) (rank : ℕ) (r : Row) (there : StandsAt rank 
 -- the refusal of a call that has nothing to tell is that of its checks
 same_refusal : (r : Result (Unit {0}) Fault) (cs : List Check) → answer_of (as_done r) ≡ checked cs done → refusal r ≡ first_refusal cs
 same_refusal (Ok u) cs given = gives_any cs done done given tt
-same_refusal (Err fault) cs refused = refuses_any cs (number fault.refusal) fault.at done refused tt
+same_refusal (Err fault) cs refused = refuses_any cs fault.refusal fault.at done refused tt
 
 -- a call that is done is not refused
 done_ok : (r : Result (Unit {0}) Fault) → answer_of (as_done r) ≡ gives done → IsOk r
@@ -169,7 +170,7 @@ module _ {B : Type 0} (meaning : B → Meaning) (old alone : Held B) (rank : ℕ
       let b = old.book in
       let cs = checks_of m (without_it rank b) (Admit rank n) in
       same_refusal result cs ((admits_there n alone new (as_done result) refl does).replies ∙ step_answers m (without_it rank b) (Admit rank n))
-      ∙ sym (passes_on (not (is_rank (length b.rows) rank)) 10 0 (first_refusal cs) (passes m b rank r there))
+      ∙ sym (passes_on (not (is_rank (length b.rows) rank)) NoRank 0 (first_refusal cs) (passes m b rank r there))
 
   -- where the rows stood on the frame and all met, the row is admitted back, and the bench is as it was
   module _ (counted : CanBeCounted most_rows old.book.frame old.book.rows) (met : AllPass is_met (findings_of (meaning old.bound) old.book.frame old.book.rows))

@@ -1,5 +1,6 @@
 -- A row that stands on a bench, exchanged for another one.
 use Rattle.std.specs.Prelude.{ℕ, ◌-◌, not, List, ◌∷◌, [], ◌++◌, length, take, drop}
+use Rattle.rows.specs.declared.refusals.Refusal.TheVariants.{NoRank}
 use Rattle.rows.specs.declared.tasks.Numbers.{Numbers}
 use Rattle.rows.specs.Answers.{Check, check}
 use Rattle.rows.specs.Judging.{rows_of}
@@ -15,5 +16,5 @@ exchanged rank n b = book b.frame (take (rank - 1) b.rows ++ (rows_of (n ∷ [])
 -- admission of the new row on the book without the old one
 abbrev pub exchange_checks : Meaning → Book → ℕ → Numbers → List Check
 exchange_checks m b rank n =
-    check (not (is_rank (length b.rows) rank)) 10 0
+    check (not (is_rank (length b.rows) rank)) NoRank 0
     ∷ checks_of m (book b.frame (without rank b.rows)) (Admit rank n)

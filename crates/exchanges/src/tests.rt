@@ -3,10 +3,9 @@ use crate::exchange;
 use admission::{Bench, Call, Reply, play};
 use batches::Batches;
 use bounds::{Bound, ExactSteps, LinearTail};
-use rows::{Fault, Numbers, Refusal};
+use rows::{Fault, Finding, Numbers, Refusal, Verdict};
 use std::test::Fail;
 use tables::survey;
-use verdicts::{Finding, Verdict};
 
 // The rows of the worked table (docs/RULES.md, A worked table).
 const A: Numbers = Numbers {

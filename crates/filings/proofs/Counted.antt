@@ -4,6 +4,7 @@ use Rattle.std.specs.Result.{IsOk}
 use Rattle.std.proofs.lemmas.Bool.{le-ltb, not_from_true}
 use Rattle.std.proofs.lemmas.List.{append_assoc, append-nil, map_push, take_more_set}
 use Rattle.std.proofs.lemmas.List.Elements.{All-append, All-cons, All-nil}
+use Rattle.rows.specs.declared.refusals.Refusal.TheVariants.{BadFrame, OffFrame, FullTable}
 use Rattle.rows.specs.declared.refusals.Fault.{Fault}
 use Rattle.rows.specs.declared.tasks.Row.{Row}
 use Rattle.rows.specs.Answers.{answer, checked, gives}
@@ -12,8 +13,8 @@ use Rattle.rows.specs.Times.{is_frame}
 use Rattle.rows.proofs.Checks.{given_is, passes_on, places_pass_on}
 use Rattle.bounds.specs.Meaning.{Meaning}
 use Rattle.bounds.specs.Supplied.{exact_steps}
-use Rattle.verdicts.specs.declared.verdicts.Finding.{Finding}
-use Rattle.verdicts.specs.Found.{tells}
+use Rattle.rows.specs.declared.verdicts.Finding.{Finding}
+use Rattle.rows.specs.Found.{tells}
 use Rattle.findings.specs.Asking.{is_off, most_above, question_checks}
 use Rattle.findings.specs.Countable.{StandOn}
 use Rattle.findings.specs.Findings.{row_finding}
@@ -24,10 +25,10 @@ use Rattle.brackets.specs.Counting.{both_found, row_counts}
 -- a question about a row that stands on the frame below few others is answered
 pub asked : {A : Type 0} (h : ℕ) (r : Row) (above : List Row) (x : A) → StandOn h above → is_on_frame h r ≡ true → length above ≤ most_above → checked (question_checks h r above) x ≡ gives x
 asked h r above x stands on few =
-    passes_on (not (is_frame h)) 1 0 _ (not_from_true (is_frame h) stands.frame)
-    ∙ passes_on (ltb most_above (length above)) 9 0 _ (le-ltb most_above (length above) few)
-    ∙ places_pass_on (is_off h) (λ i. i + 1) above 8 _ (λ k d within. not_from_true (is_on_frame h (get_or above k d)) (stands.on k d within))
-    ∙ passes_on (is_off h r) 8 (length above + 1) (gives x) (not_from_true (is_on_frame h r) on)
+    passes_on (not (is_frame h)) BadFrame 0 _ (not_from_true (is_frame h) stands.frame)
+    ∙ passes_on (ltb most_above (length above)) FullTable 0 _ (le-ltb most_above (length above) few)
+    ∙ places_pass_on (is_off h) (λ i. i + 1) above OffFrame _ (λ k d within. not_from_true (is_on_frame h (get_or above k d)) (stands.on k d within))
+    ∙ passes_on (is_off h r) OffFrame (length above + 1) (gives x) (not_from_true (is_on_frame h r) on)
 
 -- so it is no refusal
 pub is_counted : (m : Meaning) (h : ℕ) (r : Row) (above : List Row) (counts : Result Counts Fault) → StandOn h above → is_on_frame h r ≡ true → length above ≤ most_above

@@ -3,8 +3,8 @@ use Rattle.std.proofs.Common.{◌≡◌, ℕ, ◌≤◌, true, List, map}
 use Rattle.rows.specs.Times.{horizon, is_frame, most_rows}
 use Rattle.std.proofs.lemmas.Bool.{and_parts, leb-true}
 use Rattle.bounds.specs.Values.{meaning_of}
-use Rattle.verdicts.specs.declared.verdicts.Finding.{Finding}
-use Rattle.verdicts.specs.Found.{tells}
+use Rattle.rows.specs.declared.verdicts.Finding.{Finding}
+use Rattle.rows.specs.Found.{tells}
 use Rattle.findings.specs.Countable.{CanBeCounted}
 use Rattle.findings.specs.Tables.{findings_of}
 use Rattle.leaves.specs.declared.entries.Heading.{Heading}

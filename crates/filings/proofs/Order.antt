@@ -3,6 +3,8 @@ use Rattle.std.proofs.Common.{◌≡◌, ℕ, ◌+◌, ◌%◌, Bool, true, fals
 use Rattle.std.specs.Prelude.{is_some}
 use Rattle.std.proofs.lemmas.Bool.{ltb-false, not-false, not_from_true}
 use Rattle.std.proofs.lemmas.List.Sums.{AllPass-from_list_all, list_all-from_AllPass}
+use Rattle.rows.specs.declared.refusals.Refusal.{Refusal}
+use Rattle.rows.specs.declared.refusals.Refusal.TheVariants.{BadFrame, OffFrame, FullTable, ShortList}
 use Rattle.rows.specs.declared.tasks.Numbers.{Numbers}
 use Rattle.rows.specs.Answers.{Answer, Check, check, check_each, checked, first_refusal, gives, Passes, refuses, refuses_at}
 use Rattle.rows.specs.Judging.{is_off_frame, row_flaws, table_flaw_checks}
@@ -32,7 +34,7 @@ behind (c ∷ cs) ds es z same = ap (refuses_at c.refusal c.at) (behind cs ds es
 
 -- what is checked of a table before its periods
 abbrev pub number_checks : List Numbers → List Check
-number_checks table = check (ltb most_rows (length table)) 9 0 ∷ table_flaw_checks row_flaws table
+number_checks table = check (ltb most_rows (length table)) FullTable 0 ∷ table_flaw_checks row_flaws table
 
 -- what is wrong twice is told once
 told_once : {A : Type 0} (wrong : Bool) (n m : ℕ) (others : Answer A) → refuses_at n (if wrong then Some 0 else None) (refuses_at m (if wrong then Some 0 else None) others) ≡ refuses_at n (if wrong then Some 0 else None) others
@@ -42,18 +44,18 @@ told_once false n m others = refl
 -- on a frame a table is checked as its survey into a list for a full table is
 pub surveyed : {A : Type 0} (h : ℕ) (table : List Numbers) (z : A) → is_frame h ≡ true → checked (survey_checks h table most_rows) z ≡ checked (table_checks (Some h) table) z
 surveyed h table z frame =
-    passes_on (not (is_frame h)) 1 0 _ (not_from_true (is_frame h) frame) ∙ told_once (ltb most_rows (length table)) 9 12 _
+    passes_on (not (is_frame h)) BadFrame 0 _ (not_from_true (is_frame h) frame) ∙ told_once (ltb most_rows (length table)) FullTable ShortList _
 
 -- a table that comes through its checks on a frame is judged
 pub judged : {A : Type 0} (h : ℕ) (table : List Numbers) (x y : A) → is_frame h ≡ true → gives x ≡ checked (table_checks (Some h) table) y → IsJudged h table
 judged h table x y frame given =
     let few = first_passes (ltb most_rows (length table)) 9 0 x _ given in
     let flaws = table_flaw_checks row_flaws table in
-    let last = each_passes (is_off_frame h) table 8 x (gives y) (back_passes flaws (check_each (is_off_frame h) 8 table ∷ []) x y few.1) in
+    let last = each_passes (is_off_frame h) table OffFrame x (gives y) (back_passes flaws (check_each (is_off_frame h) OffFrame table ∷ []) x y few.1) in
     record {
       frame = frame;
       few = omega (arith, ltb-false most_rows (length table) few.0);
-      numbers = front_passes flaws (check_each (is_off_frame h) 8 table ∷ []) x y few.1;
+      numbers = front_passes flaws (check_each (is_off_frame h) OffFrame table ∷ []) x y few.1;
       on = list_all-from_AllPass (λ n. eqb (h % n.period) 0) table (λ k d within. not-false _ (last.0 k d within));
     }
 
@@ -61,8 +63,8 @@ judged h table x y frame given =
 pub framed_alike : {A : Type 0} (h : ℕ) (table : List Numbers) (z : A) → is_common table h ≡ true → common_frame table ≡ Some h → checked (table_checks (Some h) table) z ≡ checked (table_checks None table) z
 framed_alike h table z common is =
     let all = AllPass-from_list_all (λ n. eqb (h % n.period) 0) table common in
-    let on = places_pass_on (is_off_frame h) (λ i. i + 1) table 8 (gives z) (λ k d within. not_from_true _ (all k d within)) in
-    let found = passes_on (not (is_some (common_frame table))) 1 0 (gives z) (ap (λ o. not (is_some o)) is) in
+    let on = places_pass_on (is_off_frame h) (λ i. i + 1) table OffFrame (gives z) (λ k d within. not_from_true _ (all k d within)) in
+    let found = passes_on (not (is_some (common_frame table))) BadFrame 0 (gives z) (ap (λ o. not (is_some o)) is) in
     behind (number_checks table) (period_check (Some h) table ∷ []) (period_check None table ∷ []) z (on ∙ sym found)
 
 module _ (frame accuracy : Option ℕ) (table : List Numbers) where
@@ -75,7 +77,7 @@ module _ (frame accuracy : Option ℕ) (table : List Numbers) where
 
     -- what is refused of the table is refused of all of it
     module _ {B : Type 0} (x y : B) (accurate : gives x ≡ checked (accuracy_checks accuracy) y) where
-      pub table_refused : {A C : Type 0} (n at : ℕ) (w : C) → refuses n at ≡ checked (table_checks frame table) w → (z : A) → refuses n at ≡ checked (filing_checks frame accuracy table) z
+      pub table_refused : {A C : Type 0} (n : Refusal) (at : ℕ) (w : C) → refuses n at ≡ checked (table_checks frame table) w → (z : A) → refuses n at ≡ checked (filing_checks frame accuracy table) z
       table_refused n at w refused z = refuses_any (table_checks frame table) n at w refused z ∙ table_left x y accurate z
 
       -- and where nothing is, all is passed

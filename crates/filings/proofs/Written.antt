@@ -5,6 +5,7 @@ use Rattle.std.proofs.lemmas.List.{length-map, map_push}
 use Rattle.std.proofs.lemmas.Bool.{le-ltb, lt-leb, not_from_true}
 use Rattle.std.specs.Prelude.{OnOk}
 use Rattle.std.specs.Result.{IsOk}
+use Rattle.rows.specs.declared.refusals.Refusal.TheVariants.{OffFrame, FullTable, ShortBuffer}
 use Rattle.rows.specs.declared.refusals.Fault.{Fault}
 use Rattle.rows.specs.Times.{most_rows}
 use Rattle.rows.proofs.Checks.{passed_first, passes_on}
@@ -72,9 +73,9 @@ module _ {p q : Phase} {old now : List ℕ} (rs : List Row) (empty : rows_in p �
       let so_far = rows_filed rs all in
       let here : is_on_frame (frame_in q) r ≡ true = ap (λ h. is_on_frame h r) so_far.frame ∙ on in
       let passes : first_refusal (row_checks q r (length now)) ≡ gives tt =
-      passes_on (leb most_rows (rows_in q)) 9 (place_of q) _ (lt-leb most_rows (rows_in q) (omega (arith, so_far.rows, empty, few)))
-      ∙ passes_on (not (is_on_frame (frame_in q) r)) 8 (place_of q) _ (not_from_true _ here)
-      ∙ passes_on (ltb (length now) (place_of q + 1 + row_size)) 19 (place_of q) (gives tt) (le-ltb (length now) (place_of q + 1 + row_size) (omega (arith, so_far.place, so_far.size, room))) in
+      passes_on (leb most_rows (rows_in q)) FullTable (place_of q) _ (lt-leb most_rows (rows_in q) (omega (arith, so_far.rows, empty, few)))
+      ∙ passes_on (not (is_on_frame (frame_in q) r)) OffFrame (place_of q) _ (not_from_true _ here)
+      ∙ passes_on (ltb (length now) (place_of q + 1 + row_size)) ShortBuffer (place_of q) (gives tt) (le-ltb (length now) (place_of q + 1 + row_size) (omega (arith, so_far.place, so_far.size, room))) in
       by answered (told ∙ passes)
     where
       by : (answered : Result (Unit {0}) Fault) → refusal answered ≡ gives tt → IsOk answered
@@ -90,7 +91,7 @@ module _ {p q : Phase} {old now : List ℕ} (rs : List Row) (empty : rows_in p �
 -- of a sheet for which there is room nothing is left to be checked
 pub sheet_told : (frame accuracy : Option ℕ) (numbers : List Numbers) (size n : ℕ) → gives n ≡ checked (filing_checks frame accuracy numbers) n → sheet_length numbers ≤ size → gives n ≡ checked (sheet_checks frame accuracy numbers size) n
 sheet_told frame accuracy numbers size n given room =
-    sym (passes_on (ltb size (sheet_length numbers)) 19 0 (gives n) (le-ltb size (sheet_length numbers) room)) ∙ passed_first (filing_checks frame accuracy numbers) (room_checks numbers size) n n given n
+    sym (passes_on (ltb size (sheet_length numbers)) ShortBuffer 0 (gives n) (le-ltb size (sheet_length numbers) room)) ∙ passed_first (filing_checks frame accuracy numbers) (room_checks numbers size) n n given n
 
 -- a heading that was filed has the numbers that it was begun with
 pub begun_frame : {p : Phase} {old new : List ℕ} {n : HeadingNumbers} (h : Heading) → heading_plain h ≡ n → Files Opening old (heading h) p new → frame_in p ≡ n.frame

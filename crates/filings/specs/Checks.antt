@@ -1,6 +1,7 @@
 -- What is checked of a table before it is counted or written as a sheet.
 use Rattle.std.specs.Prelude.{IsTrue, ℕ, ◌≤◌, not, List, [], ◌∷◌, ◌++◌, length, is_some, Some, None, Option, nat_lt}
 use Rattle.std.specs.Option.{unwrap_or}
+use Rattle.rows.specs.declared.refusals.Refusal.TheVariants.{BadFrame, BadAccuracy, OffFrame, FullTable}
 use Rattle.rows.specs.declared.tasks.Numbers.{Numbers}
 use Rattle.rows.specs.Answers.{Check, check, check_each, Passes}
 use Rattle.rows.specs.Judging.{row_flaws, table_flaw_checks, is_off_frame}
@@ -10,25 +11,25 @@ use Rattle.filings.specs.Frames.{common_frame, is_common}
 
 -- of a frame that is given: bad frame
 abbrev pub frame_checks : Option ℕ → List Check
-frame_checks (Some h) = check (not (is_frame h)) 1 0 ∷ []
+frame_checks (Some h) = check (not (is_frame h)) BadFrame 0 ∷ []
 frame_checks None = []
 
 -- of an accuracy that is given: bad accuracy
 abbrev pub accuracy_checks : Option ℕ → List Check
-accuracy_checks (Some k) = check (not (is_accuracy k)) 3 0 ∷ []
+accuracy_checks (Some k) = check (not (is_accuracy k)) BadAccuracy 0 ∷ []
 accuracy_checks None = []
 
 -- of the periods of a table: off frame with the smallest rank concerned, where a frame is given; else bad frame, where
 -- there is no common one
 abbrev pub period_check : Option ℕ → List Numbers → Check
-period_check (Some h) table = check_each (is_off_frame h) 8 table
-period_check None table = check (not (is_some (common_frame table))) 1 0
+period_check (Some h) table = check_each (is_off_frame h) OffFrame table
+period_check None table = check (not (is_some (common_frame table))) BadFrame 0
 
 -- of a table, in order: full table; idle row, no window, late deadline and long period, each at every rank before the
 -- next, with the smallest rank concerned; and then its periods
 abbrev pub table_checks : Option ℕ → List Numbers → List Check
 table_checks frame table =
-    check (nat_lt most_rows (length table)) 9 0 ∷ (table_flaw_checks row_flaws table ++ period_check frame table ∷ [])
+    check (nat_lt most_rows (length table)) FullTable 0 ∷ (table_flaw_checks row_flaws table ++ period_check frame table ∷ [])
 
 -- all of it, in order: the frame, the accuracy, the table
 abbrev pub filing_checks : Option ℕ → Option ℕ → List Numbers → List Check

@@ -3,7 +3,7 @@ use Rattle.std.specs.Prelude.{◌≡◌, ℕ, List, map}
 use Rattle.rows.specs.declared.tasks.Row.{Row}
 use Rattle.bounds.specs.Meaning.{Meaning}
 use Rattle.bounds.specs.Supplied.{exact_steps, linear_tail}
-use Rattle.verdicts.specs.Found.{Found, tells}
+use Rattle.rows.specs.Found.{Found, tells}
 use Rattle.findings.specs.Tables.{findings_of}
 use Rattle.leaves.specs.declared.entries.HeadingNumbers.{HeadingNumbers}
 use Rattle.leaves.specs.Contents.{Contents, IsLawful}

@@ -1,5 +1,6 @@
 -- The sheet of a table of numbers.
 use Rattle.std.specs.Prelude.{◌≡◌, ℕ, List, [], ◌∷◌, ◌++◌, map, length, Some, None, Option, nat_lt}
+use Rattle.rows.specs.declared.refusals.Refusal.TheVariants.{ShortBuffer}
 use Rattle.rows.specs.declared.tasks.Numbers.{Numbers}
 use Rattle.rows.specs.Answers.{Check, check}
 use Rattle.rows.specs.Judging.{plain, rows_of}
@@ -16,7 +17,7 @@ sheet_length table = row_place (length table)
 
 -- what is checked of a buffer of so many bytes for it: short buffer
 abbrev pub room_checks : List Numbers → ℕ → List Check
-room_checks table size = check (nat_lt size (sheet_length table)) 19 0 ∷ []
+room_checks table size = check (nat_lt size (sheet_length table)) ShortBuffer 0 ∷ []
 
 -- what is checked before it is written, in order: all that is checked of the table, and then the buffer
 abbrev pub sheet_checks : Option ℕ → Option ℕ → List Numbers → ℕ → List Check

@@ -4,9 +4,8 @@ ghost use Rattle.std.specs.Prelude.{◌≡◌};
 use bounds::{LinearTail, Supplied};
 use brackets::count_both;
 use leaves::Heading;
-use rows::{Fault, MOST_ROWS, Row};
+use rows::{Fault, Finding, MOST_ROWS, Row, Verdict};
 use std::marker::Model;
-use verdicts::{Finding, Verdict};
 use writing::file;
 
 /// A table that was counted twice, in exact steps and by a linear tail (docs/RULES.md, How far two
@@ -26,7 +25,7 @@ impl Model for Filing {
     ghost use Rattle.rows.specs.Times.{most_rows};
     ghost use Rattle.bounds.specs.Supplied.{exact_steps, linear_tail};
     ghost use Rattle.bounds.specs.Values.{accuracy_of};
-    ghost use Rattle.verdicts.specs.Found.{tells};
+    ghost use Rattle.rows.specs.Found.{tells};
     ghost use Rattle.findings.specs.Countable.{StandOn};
     ghost use Rattle.findings.specs.Tables.{findings_of};
     ghost use Rattle.filings.specs.Filings.{Filed, filed};
@@ -49,7 +48,7 @@ impl Filing {
     ghost use Rattle.rows.specs.Counting.{is_on_frame};
     ghost use Rattle.rows.specs.Times.{is_frame, most_rows};
     ghost use Rattle.bounds.specs.Values.{accuracy_of, meaning_of};
-    ghost use Rattle.verdicts.specs.Found.{tells};
+    ghost use Rattle.rows.specs.Found.{tells};
     ghost use Rattle.leaves.specs.Contents.{Contents};
     ghost use Rattle.leaves.specs.Headings.{bound_numbers};
     ghost use Rattle.findings.specs.Countable.{CanBeCounted};

@@ -9,9 +9,8 @@ ghost use Rattle.filings.specs.Checks.{frame_checks, table_checks, frame_for, Is
 
 use crate::frames::common_frame;
 use bounds::LinearTail;
-use rows::{Fault, HORIZON, MOST_ROWS, Numbers, Refusal, is_frame};
+use rows::{Fault, Finding, HORIZON, MOST_ROWS, Numbers, Refusal, Verdict, is_frame};
 use tables::survey;
-use verdicts::{Finding, Verdict};
 
 // Whether a frame that is given is one.
 pub(crate) fn check_frame(frame: Option<u32>) -> Result<(), Fault>
@@ -66,7 +65,7 @@ fn judge_on_common(table: &[Numbers]) -> Result<u32, Fault>
 // the frame.
 fn fault_without_frame(table: &[Numbers]) -> Fault
     requires { common_frame table.now ≡ None }
-    ensures { refuses (number result.refusal) result.at
+    ensures { refuses result.refusal result.at
         ≡ first_refusal (table_checks None table.now) }
 {
     match check_on(HORIZON, table) {

@@ -9,7 +9,7 @@ use Rattle.bounds.specs.Lemmas.Instants.{least_after, least_some, least_none, le
 use Rattle.findings.specs.Demand.{Load, is_rest}
 use Rattle.findings.specs.Floors.{NoneBetween}
 use Rattle.findings.specs.Points.{is_bend}
-use Rattle.verdicts.specs.Found.{Found}
+use Rattle.rows.specs.Found.{Found}
 use Rattle.findings.specs.Findings.{first_rest, is_tested, is_resting_point, stop, points, load_finding, Says}
 use Rattle.findings.specs.Countable.{StandOn}
 use Rattle.findings.proofs.Turning.{not_before}

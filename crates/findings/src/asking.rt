@@ -4,7 +4,7 @@ ghost use Rattle.std.specs.Option.{option_map};
 ghost use Rattle.rows.specs.Answers.{answer, checked};
 ghost use Rattle.bounds.specs.Supplied.{exact_steps};
 ghost use Rattle.findings.specs.Asking.{most_above, question_checks};
-ghost use Rattle.verdicts.specs.Found.{tells};
+ghost use Rattle.rows.specs.Found.{tells};
 ghost use Rattle.findings.specs.Findings.{row_finding, RowSays};
 ghost use Rattle.findings.specs.Exact.{response, Responds};
 ghost use Rattle.findings.specs.Countable.{CanBeCounted};
@@ -12,8 +12,7 @@ ghost use Rattle.findings.specs.Countable.{CanBeCounted};
 use crate::frames::check_rows;
 use crate::loads::Load;
 use bounds::{Bound, ExactSteps};
-use rows::{Fault, MOST_ROWS, Refusal, Row, is_frame};
-use verdicts::Finding;
+use rows::{Fault, Finding, MOST_ROWS, Refusal, Row, is_frame};
 
 // One row of a table less: at most so many stand above another.
 const MOST_ABOVE: usize = MOST_ROWS - 1;

@@ -13,4 +13,4 @@ mod skipping;
 
 pub use asking::{find, response_time};
 pub use recounting::{check_size, recount};
-pub use verdicts::{Finding, Verdict};
+pub use rows::{Finding, Verdict};

@@ -4,15 +4,14 @@ ghost use Rattle.rows.specs.Answers.{answer, checked};
 ghost use Rattle.rows.specs.Lists.{written, StaysOutside};
 ghost use Rattle.rows.specs.Times.{most_rows};
 ghost use Rattle.findings.specs.Asking.{size_checks, table_checks};
-ghost use Rattle.verdicts.specs.Found.{tells};
+ghost use Rattle.rows.specs.Found.{tells};
 ghost use Rattle.findings.specs.Tables.{findings_of, TableSays};
 ghost use Rattle.findings.specs.Countable.{CanBeCounted, HasPlaces};
 
 use crate::frames::check_rows;
 use crate::loads::Load;
 use bounds::Bound;
-use rows::{Fault, MOST_ROWS, Refusal, Row, is_frame};
-use verdicts::Finding;
+use rows::{Fault, Finding, MOST_ROWS, Refusal, Row, is_frame};
 
 /// Whether a table of so many rows on the frame can be counted into a list of so many places.
 ///

@@ -2,14 +2,14 @@
 ghost use Rattle.std.specs.Prelude.{IsTrue, ◌≡◌, ◌<◌, ◌≤◌};
 ghost use Rattle.rows.specs.Times.{horizon};
 ghost use Rattle.findings.specs.Demand.{is_rest};
-ghost use Rattle.verdicts.specs.Found.{tells};
+ghost use Rattle.rows.specs.Found.{tells};
 ghost use Rattle.findings.specs.Findings.{first_rest, load_finding, Says};
 ghost use Rattle.bounds.specs.Instants.{IsFirst, OnceThenOn};
 ghost use Rattle.findings.specs.Loads.{load_of};
 
 use crate::loads::Load;
 use bounds::Bound;
-use verdicts::{Finding, Verdict};
+use rows::{Finding, Verdict};
 
 impl<'a, B: Bound> Load<'a, B> {
     // The first rest after `low`, where `high` is a rest and so is every instant from the first one

@@ -6,10 +6,10 @@ use Rattle.rows.specs.declared.tasks.Row.{Row}
 use Rattle.rows.specs.Judging.{plain}
 use Rattle.rows.specs.Times.{horizon}
 use Rattle.rows.proofs.SameRow.{same_row}
-use Rattle.verdicts.specs.declared.verdicts.Finding.{Finding}
-use Rattle.verdicts.specs.declared.verdicts.Verdict.{Verdict}
-use Rattle.verdicts.specs.declared.verdicts.Verdict.TheVariants.{Meets, Misses}
-use Rattle.verdicts.specs.Found.{verdict_rest, tells}
+use Rattle.rows.specs.declared.verdicts.Finding.{Finding}
+use Rattle.rows.specs.declared.verdicts.Verdict.{Verdict}
+use Rattle.rows.specs.declared.verdicts.Verdict.TheVariants.{Meets, Misses}
+use Rattle.rows.specs.Found.{verdict_rest, tells}
 use Rattle.leaves.specs.declared.entries.Heading.{Heading}
 use Rattle.leaves.specs.Bytes.{four, number_at}
 use Rattle.leaves.specs.Headings.{heading_plain, bound_numbers}

@@ -1,6 +1,7 @@
 -- What can be filed passes its checks, and what passes can be filed.
 use Rattle.std.proofs.Common.{◌≡◌, ℕ, ◌+◌, ◌%◌, true, not, eqb, [], ◌∷◌, refl, sym, ap, ◌∙◌, arith}
 use Rattle.std.proofs.lemmas.Bool.{and_from, le-leb, le-ltb, ne_eqb, not-false, not_from_true}
+use Rattle.rows.specs.declared.refusals.Refusal.TheVariants.{BadFrame, BadAccuracy, OffFrame}
 use Rattle.rows.specs.declared.tasks.Numbers.{Numbers}
 use Rattle.rows.specs.declared.tasks.Row.{Row}
 use Rattle.rows.specs.Answers.{gives, check, checked, first_refusal}
@@ -20,11 +21,11 @@ framed h = and_from _ _ (le-leb 1 h.frame h.low) (le-leb h.frame horizon h.near)
 
 -- the numbers of a heading pass their checks
 pub heading_passes : (h : Heading) (at : ℕ) → first_refusal (heading_checks (heading_plain h) at) ≡ gives tt
-heading_passes h at = passes_on (not (is_frame h.frame)) 1 at _ (not_from_true (is_frame h.frame) (framed h)) ∙ named h.bound
+heading_passes h at = passes_on (not (is_frame h.frame)) BadFrame at _ (not_from_true (is_frame h.frame) (framed h)) ∙ named h.bound
   where
     named : (b : Supplied) → first_refusal (heading_checks (record { frame = 1; bound = (bound_numbers b).0; accuracy = (bound_numbers b).1 }) at) ≡ gives tt
     named exact = refl
-    named (tail t) = passes_on (not (is_accuracy t.accuracy)) 3 at _ (not_from_true _ (and_from _ _ (le-leb 1 t.accuracy t.low) (le-leb t.accuracy finest t.high)))
+    named (tail t) = passes_on (not (is_accuracy t.accuracy)) BadAccuracy at _ (not_from_true _ (and_from _ _ (le-leb 1 t.accuracy t.low) (le-leb t.accuracy finest t.high)))
 
 -- and so do those of a row
 pub numbers_pass : (r : Row) (at : ℕ) → first_refusal (flaw_checks row_flaws (plain r) at) ≡ gives tt
@@ -39,7 +40,7 @@ numbers_pass r at =
 pub row_passes : (h : ℕ) (r : Row) (at : ℕ) → is_on_frame h r ≡ true → first_refusal (flaw_checks (frame_flaws h) (plain r) at) ≡ gives tt
 row_passes h r at on =
     let off = not_from_true (eqb (h % r.period) 0) on in
-    sym (passed_first (flaw_checks row_flaws (plain r) at) (check (is_off_frame h (plain r)) 8 at ∷ []) tt tt (sym (numbers_pass r at)) tt) ∙ passes_on (is_off_frame h (plain r)) 8 at (gives tt) off
+    sym (passed_first (flaw_checks row_flaws (plain r) at) (check (is_off_frame h (plain r)) OffFrame at ∷ []) tt tt (sym (numbers_pass r at)) tt) ∙ passes_on (is_off_frame h (plain r)) OffFrame at (gives tt) off
 
 -- a row that was judged on a frame stands on it
 pub judged_on : (h at : ℕ) (r : Row) (n : Numbers) → gives (plain r) ≡ checked (flaw_checks (frame_flaws h) n at) n → is_on_frame h r ≡ true

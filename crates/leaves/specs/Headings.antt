@@ -1,5 +1,6 @@
 -- Headings, and the plain numbers that are one.
 use Rattle.std.specs.Prelude.{ℕ, Bool, not, List, [], ◌∷◌, ◌==◌, nat_lt, if◌then◌else◌}
+use Rattle.rows.specs.declared.refusals.Refusal.TheVariants.{BadFrame, BadAccuracy, UnknownBound}
 use Rattle.rows.specs.Answers.{Check, check}
 use Rattle.rows.specs.Times.{is_frame}
 use Rattle.bounds.specs.declared.supplied.Supplied.{Supplied}
@@ -28,8 +29,8 @@ has_accuracy n = if n.bound == 0 then n.accuracy == 0 else is_accuracy n.accurac
 
 -- what is checked of the bound that numbers name, in order: unknown bound, bad accuracy
 abbrev pub bound_checks : HeadingNumbers → ℕ → List Check
-bound_checks n at = check (nat_lt last_bound n.bound) 20 at ∷ check (not (has_accuracy n)) 3 at ∷ []
+bound_checks n at = check (nat_lt last_bound n.bound) UnknownBound at ∷ check (not (has_accuracy n)) BadAccuracy at ∷ []
 
 -- what is checked of the numbers of a heading: bad frame, and then the bound
 abbrev pub heading_checks : HeadingNumbers → ℕ → List Check
-heading_checks n at = check (not (is_frame n.frame)) 1 at ∷ bound_checks n at
+heading_checks n at = check (not (is_frame n.frame)) BadFrame at ∷ bound_checks n at

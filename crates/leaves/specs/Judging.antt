@@ -1,9 +1,10 @@
 -- Which findings can be filed.
 use Rattle.std.specs.Prelude.{◌≡◌, ℕ, ◌^◌, ◌<◌, Bool, true, false, not, ◌&&◌, ◌||◌, List, [], ◌∷◌, Some, None, Option, ◌==◌, nat_le}
+use Rattle.rows.specs.declared.refusals.Refusal.TheVariants.{BadFinding}
 use Rattle.rows.specs.Answers.{Check, check}
 use Rattle.rows.specs.Times.{horizon}
-use Rattle.verdicts.specs.declared.verdicts.Finding.{Finding}
-use Rattle.verdicts.specs.Found.{verdict_rest}
+use Rattle.rows.specs.declared.verdicts.Finding.{Finding}
+use Rattle.rows.specs.Found.{verdict_rest}
 
 -- a first rest, where there is one, lies from 1 to the horizon
 abbrev pub is_in_range : Option ℕ → Bool
@@ -16,7 +17,7 @@ is_bad_finding f = f.points == 0 || not (is_in_range (verdict_rest f.verdict))
 
 -- what is checked of a finding: bad finding
 abbrev pub finding_checks : Finding → ℕ → List Check
-finding_checks f at = check (is_bad_finding f) 17 at ∷ []
+finding_checks f at = check (is_bad_finding f) BadFinding at ∷ []
 
 -- a finding can be filed: it is not bad, and its points fit four bytes
 pub record IsFilable (f : Finding) : Type 0 where

@@ -3,8 +3,7 @@ ghost use Rattle.std.specs.Prelude.{◌≤◌};
 ghost use Rattle.rows.specs.Times.{horizon};
 
 use bounds::Supplied;
-use rows::Row;
-use verdicts::Finding;
+use rows::{Finding, Row};
 
 /// How many bytes the body of a heading has: an entry is one byte more, its letter.
 pub const HEADING_SIZE: usize = 6;

@@ -6,8 +6,7 @@ ghost use Rattle.leaves.specs.Judging.{finding_checks};
 
 use crate::entries::{Heading, HeadingNumbers};
 use bounds::{Bound, LinearTail, Supplied};
-use rows::{Fault, HORIZON, Refusal, is_frame};
-use verdicts::{Finding, Verdict};
+use rows::{Fault, Finding, HORIZON, Refusal, Verdict, is_frame};
 
 impl HeadingNumbers {
     /// The heading of these numbers (docs/FORMAT.md has their ranges). Refused with the first of

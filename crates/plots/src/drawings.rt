@@ -7,11 +7,10 @@ use crate::marks::draw_marks;
 use crate::pictures::{Point, picture_of};
 use crate::plotting::Plot;
 use bounds::{Bound, LinearTail};
-use rows::Row;
+use rows::{Finding, Row};
 use std::alloc::Global;
 use std::io;
 use std::io::Write;
-use verdicts::Finding;
 
 /// A row with a name and a rank, below other rows on a frame, and what is found about it in exact
 /// steps and by a linear tail: what a picture is drawn of.

@@ -5,7 +5,7 @@ ghost use Rattle.bounds.specs.Answering.{amount_answered};
 ghost use Rattle.bounds.specs.Instants.{count};
 ghost use Rattle.bounds.specs.Supplied.{exact_steps, linear_tail};
 ghost use Rattle.bounds.specs.Values.{accuracy_of};
-ghost use Rattle.verdicts.specs.Found.{verdict_rest};
+ghost use Rattle.rows.specs.Found.{verdict_rest};
 ghost use Rattle.findings.specs.Points.{is_test_point};
 ghost use Rattle.plots.specs.Pictures.{IsCurve, both_rests, demand_up_to, point_at};
 

@@ -5,7 +5,7 @@ use Rattle.std.proofs.lemmas.List.Elements.{All-cons, All-head, All-nil, All-tai
 use Rattle.rows.specs.declared.tasks.Row.{Row}
 use Rattle.rows.specs.Counting.{is_on_frame}
 use Rattle.rows.specs.Times.{most_rows}
-use Rattle.verdicts.specs.declared.verdicts.Finding.{Finding}
+use Rattle.rows.specs.declared.verdicts.Finding.{Finding}
 use Rattle.leaves.specs.declared.entries.Heading.{Heading}
 use Rattle.leaves.specs.declared.entries.Entry.{Entry}
 use Rattle.leaves.specs.declared.entries.Entry.TheVariants.{Heading as heading, Row as row, Finding as finding, End as end}

@@ -2,6 +2,7 @@
 use Rattle.std.proofs.Common.{refl, ◌≡◌, ℕ, List, [], ◌++◌, length, sym, ap, ◌∙◌, ap₂, subst, true, Some, None}
 use Rattle.std.proofs.lemmas.Bool.{false≢true}
 use Rattle.std.proofs.lemmas.List.{append-nil}
+use Rattle.rows.specs.declared.refusals.Refusal.{Refusal}
 use Rattle.rows.specs.Answers.{Answer, gives, refuses, first_refusal}
 use Rattle.leaves.specs.declared.entries.Entry.{Entry}
 use Rattle.leaves.specs.Contents.{Contents, entries, bytes_of, encoding}
@@ -45,7 +46,7 @@ module _ (bytes : List ℕ) (c : Contents) (fits : Fits bytes (gives c)) {es : L
   beside = run_once (lawful_run c fits.0) run opening_sound [] left (λ e q more step split. closed_stuck step) stuck (append-nil (encoding c) ∙ sym fits.1 ∙ split)
 
 -- contents and a refusal do not both fit
-not_both : (bytes : List ℕ) (c : Contents) (n at : ℕ) → Fits bytes (gives c) → IsRefusedAt bytes n at → ⊥
+not_both : (bytes : List ℕ) (c : Contents) (n : Refusal) (at : ℕ) → Fits bytes (gives c) → IsRefusedAt bytes n at → ⊥
 not_both bytes c n at fits r =
     let both = beside bytes c fits r.left r.split r.run (refused_stuck r) in
     let none = ap₂ (λ p xs. first_refusal (next_checks p (length (bytes_of r.before)) xs)) both.1 both.2 in
@@ -53,7 +54,7 @@ not_both bytes c n at fits r =
     cc
 
 -- a refusal is known by its number and its place
-pub again : {A B : Type 0} (n at m to : ℕ) → ◌≡◌ {A = Answer A} (refuses n at) (refuses m to) → ◌≡◌ {A = Answer B} (refuses n at) (refuses m to)
+pub again : {A B : Type 0} (n : Refusal) (at : ℕ) (m : Refusal) (to : ℕ) → ◌≡◌ {A = Answer A} (refuses n at) (refuses m to) → ◌≡◌ {A = Answer B} (refuses n at) (refuses m to)
 again n at m to same = let number : n ≡ m = cc in let place : at ≡ to = cc in ap₂ refuses number place
 
 pub fits_once : FitsOnce

@@ -8,7 +8,7 @@ use Rattle.std.proofs.lemmas.List.Elements.{All-drop, All-head, All-map, All-tai
 use Rattle.std.proofs.Math.Seq.{drop-append-add, take-append_seam}
 use Rattle.rows.specs.declared.tasks.Row.{Row}
 use Rattle.rows.specs.Lists.{first_of, at_rank}
-use Rattle.verdicts.specs.declared.verdicts.Finding.{Finding}
+use Rattle.rows.specs.declared.verdicts.Finding.{Finding}
 use Rattle.leaves.specs.declared.entries.Entry.{Entry}
 use Rattle.leaves.specs.declared.entries.Entry.TheVariants.{Row as row, Finding as finding}
 use Rattle.leaves.specs.Entries.{entry_bytes, row_size, finding_size}

@@ -2,12 +2,13 @@
 use Rattle.std.proofs.Common.{◌≡◌, ℕ, ◌+◌, ◌<◌, ◌≤◌, true, not, eqb, ltb, leb, List, ◌∷◌, ◌++◌, ◌||◌, ⊎_elim, drop, length, get_or, Some, None, refl, ap, ◌∙◌, arith, if◌then◌else◌}
 use Rattle.std.proofs.lemmas.Nat.{from_be_bytes-to_be_bytes_4}
 use Rattle.std.proofs.lemmas.Bool.{eq-eqb, le-ltb, lt-leb, ltb-true, not_from_true, or_cases}
+use Rattle.rows.specs.declared.refusals.Refusal.TheVariants.{FullTable, CutLeaf, Miscount, BadFinding}
 use Rattle.rows.specs.Answers.{Answer, gives, refuses_at, first_refusal}
 use Rattle.rows.specs.Judging.{plain, frame_flaws, flaw_checks}
 use Rattle.rows.specs.Times.{most_rows}
 use Rattle.rows.proofs.Checks.{passes_on}
-use Rattle.verdicts.specs.declared.verdicts.Finding.{Finding}
-use Rattle.verdicts.specs.Found.{tells}
+use Rattle.rows.specs.declared.verdicts.Finding.{Finding}
+use Rattle.rows.specs.Found.{tells}
 use Rattle.leaves.specs.declared.entries.Heading.{Heading}
 use Rattle.leaves.specs.declared.entries.Entry.{Entry}
 use Rattle.leaves.specs.declared.entries.Entry.TheVariants.{Heading as heading, Row as row, Finding as finding, End as end}
@@ -46,29 +47,29 @@ step_place (closes after_rows even number) = omega arith
 step_place (closes after_findings even number) = omega arith
 
 -- a body that is long enough is not cut
-pub uncut : {A : Type 0} (size at : ℕ) (body : List ℕ) (others : Answer A) → size ≤ length body → refuses_at 13 (if ltb (length body) size then Some (at + 1 + length body) else None) others ≡ others
-uncut size at body others enough = passes_on (ltb (length body) size) 13 (at + 1 + length body) others (le-ltb (length body) size enough)
+pub uncut : {A : Type 0} (size at : ℕ) (body : List ℕ) (others : Answer A) → size ≤ length body → refuses_at CutLeaf (if ltb (length body) size then Some (at + 1 + length body) else None) others ≡ others
+uncut size at body others enough = passes_on (ltb (length body) size) CutLeaf (at + 1 + length body) others (le-ltb (length body) size enough)
 
 -- the checks of A and Z in a phase that takes findings
 finding_passes : (rows findings at : ℕ) (f : Finding) (xs : List ℕ) → findings < rows → IsFilable f → first_refusal (finding_entry_checks rows findings at (finding_body (tells f) ++ xs)) ≡ gives tt
 finding_passes rows findings at f xs missing good =
-    passes_on (leb rows findings) 16 at _ (lt-leb rows findings missing)
+    passes_on (leb rows findings) Miscount at _ (lt-leb rows findings missing)
     ∙ uncut finding_size at (finding_body (tells f) ++ xs) _ (omega arith)
     ∙ ap (λ g. first_refusal (finding_checks g at)) (finding_again f xs good)
-    ∙ passes_on (is_bad_finding f) 17 at _ good.good
+    ∙ passes_on (is_bad_finding f) BadFinding at _ good.good
 
 end_passes : (rows findings at k : ℕ) (xs : List ℕ) → findings ≤ most_rows → findings ≡ rows → k ≡ 1 + rows + findings → first_refusal (end_entry_checks rows findings at (four k ++ xs)) ≡ gives tt
 end_passes rows findings at k xs few even number =
-    passes_on (ltb findings rows) 16 at _ (le-ltb findings rows (omega arith))
+    passes_on (ltb findings rows) Miscount at _ (le-ltb findings rows (omega arith))
     ∙ uncut end_size at (four k ++ xs) _ (omega arith)
-    ∙ passes_on (not (eqb (number_at 0 (four k ++ xs)) (1 + rows + findings))) 16 at _ (not_from_true _ (eq-eqb (number_at 0 (four k ++ xs)) (1 + rows + findings) (from_be_bytes-to_be_bytes_4 k (omega arith) ∙ number)))
+    ∙ passes_on (not (eqb (number_at 0 (four k ++ xs)) (1 + rows + findings))) Miscount at _ (not_from_true _ (eq-eqb (number_at 0 (four k ++ xs)) (1 + rows + findings) (from_be_bytes-to_be_bytes_4 k (omega arith) ∙ number)))
 
 -- the checks let a step pass
 pub step_passes : {p q : Phase} {e : Entry} → Step p e q → IsSound p → (at : ℕ) (xs : List ℕ) → first_refusal (next_checks p at (entry_bytes e ++ xs)) ≡ gives tt
 step_passes (opens {h = h}) sound at xs =
     uncut heading_size at (heading_body (heading_plain h) ++ xs) _ (omega arith) ∙ ap (λ n. first_refusal (heading_checks n at)) (heading_again h xs) ∙ heading_passes h at
 step_passes (stands {h = h} {n = n} {r = r} room on) sound at xs =
-    passes_on (leb most_rows n) 9 at _ (lt-leb most_rows n room)
+    passes_on (leb most_rows n) FullTable at _ (lt-leb most_rows n room)
     ∙ uncut row_size at (row_body (plain r) ++ xs) _ (omega arith)
     ∙ ap (λ m. first_refusal (flaw_checks (frame_flaws h.frame) m at)) (row_again r xs)
     ∙ row_passes h.frame r at on

@@ -7,8 +7,8 @@ use Rattle.rows.specs.Answers.{gives, checked}
 use Rattle.rows.specs.Judging.{plain, frame_flaws, flaw_checks}
 use Rattle.rows.specs.Times.{most_rows}
 use Rattle.rows.proofs.Checks.{first_passes, given_is}
-use Rattle.verdicts.specs.declared.verdicts.Finding.{Finding}
-use Rattle.verdicts.specs.Found.{tells}
+use Rattle.rows.specs.declared.verdicts.Finding.{Finding}
+use Rattle.rows.specs.Found.{tells}
 use Rattle.leaves.specs.declared.entries.Heading.{Heading}
 use Rattle.leaves.specs.declared.entries.HeadingNumbers.{HeadingNumbers}
 use Rattle.leaves.specs.declared.entries.Entry.{Entry}

@@ -11,8 +11,8 @@ use Rattle.rows.specs.Judging.{plain, row_flaws, flaw_checks}
 use Rattle.rows.specs.Lists.{at_rank}
 use Rattle.rows.specs.Refusals.{number}
 use Rattle.rows.proofs.Checks.{given_is, answered_once}
-use Rattle.verdicts.specs.declared.verdicts.Finding.{Finding}
-use Rattle.verdicts.specs.Found.{tells}
+use Rattle.rows.specs.declared.verdicts.Finding.{Finding}
+use Rattle.rows.specs.Found.{tells}
 use Rattle.leaves.specs.declared.entries.Entry.{Entry}
 use Rattle.leaves.specs.declared.entries.Entry.TheVariants.{Row as row, Finding as finding}
 use Rattle.leaves.specs.Fields.{row_fields, finding_fields}
@@ -47,4 +47,4 @@ judged_again (Some r) n (Ok s) is answered = ap Some (given_is (flaw_checks row_
 judged_again (Some r) n (Err e) is answered =
     let same : n ≡ plain r = cc in
     let passes = ap (λ m. first_refusal (flaw_checks row_flaws m 0)) same ∙ numbers_pass r 0 in
-    absurd (answered_once (flaw_checks row_flaws n 0) tt tt (number e.refusal) e.at n (sym passes) answered)
+    absurd (answered_once (flaw_checks row_flaws n 0) tt tt e.refusal e.at n (sym passes) answered)

@@ -2,6 +2,7 @@
 use Rattle.std.proofs.Common.{◌≡◌, ℕ, true, false, List, [], ◌∷◌, ◌++◌, length, is_some, Option, Some, None, sym, refl, ap, ◌∙◌, subst, arith}
 use Rattle.std.proofs.lemmas.List.{append-nil}
 use Rattle.std.proofs.lemmas.Bool.{false≢true}
+use Rattle.rows.specs.declared.refusals.Refusal.{Refusal}
 use Rattle.rows.specs.Answers.{gives, refuses, first_refusal}
 use Rattle.leaves.specs.declared.entries.Entry.{Entry}
 use Rattle.leaves.specs.Contents.{Contents, bytes_of}
@@ -36,7 +37,7 @@ module _ (bytes : List ℕ) (here next : Reading) (has : HasRead bytes here) whe
   }
 
 -- where a check refuses, the refusal fits
-pub read_refused : (bytes : List ℕ) (here : Reading) → HasRead bytes here → (n at : ℕ) → refuses n at ≡ first_refusal (next_checks here.phase (place_of here.phase) here.left) → IsRefusedAt bytes n at
+pub read_refused : (bytes : List ℕ) (here : Reading) → HasRead bytes here → (n : Refusal) (at : ℕ) → refuses n at ≡ first_refusal (next_checks here.phase (place_of here.phase) here.left) → IsRefusedAt bytes n at
 read_refused bytes here has n at refused = record {
   before = has.before;
   phase = here.phase;

@@ -1,5 +1,6 @@
 -- What is checked at an entry: each check of a leaf stands here, and only here.
 use Rattle.std.specs.Prelude.{ℕ, ◌+◌, Bool, not, ◌||◌, List, [], ◌∷◌, length, ◌==◌, nat_le, nat_lt, if◌then◌else◌}
+use Rattle.rows.specs.declared.refusals.Refusal.TheVariants.{FullTable, CutLeaf, StrangeLetter, OutOfTurn, Miscount, LooseBytes}
 use Rattle.rows.specs.Answers.{Check, check}
 use Rattle.rows.specs.Judging.{frame_flaws, flaw_checks}
 use Rattle.rows.specs.Times.{most_rows}
@@ -17,19 +18,19 @@ is_kind k = k == letter_F || (k == letter_R || (k == letter_A || k == letter_Z))
 
 -- the bytes end inside a body of so many bytes: cut leaf, told at the first byte missing
 abbrev pub cut : ℕ → ℕ → List ℕ → Check
-cut size at body = check (nat_lt (length body) size) 13 (at + 1 + length body)
+cut size at body = check (nat_lt (length body) size) CutLeaf (at + 1 + length body)
 
 -- no room for another row: full table
 abbrev pub full_table_check : ℕ → ℕ → Check
-full_table_check rows at = check (nat_le most_rows rows) 9 at
+full_table_check rows at = check (nat_le most_rows rows) FullTable at
 
 -- no row is left for another finding: miscount
 abbrev pub surplus_check : ℕ → ℕ → ℕ → Check
-surplus_check rows findings at = check (nat_le rows findings) 16 at
+surplus_check rows findings at = check (nat_le rows findings) Miscount at
 
 -- fewer findings than rows have come: miscount
 abbrev pub missing_check : ℕ → ℕ → ℕ → Check
-missing_check rows findings at = check (nat_lt findings rows) 16 at
+missing_check rows findings at = check (nat_lt findings rows) Miscount at
 
 -- F: cut leaf; then its numbers
 abbrev pub heading_entry_checks : ℕ → List ℕ → List Check
@@ -54,7 +55,7 @@ abbrev pub end_entry_checks : ℕ → ℕ → ℕ → List ℕ → List Check
 end_entry_checks rows findings at body =
     missing_check rows findings at
     ∷ cut end_size at body
-    ∷ check (not (number_at 0 body == 1 + rows + findings)) 16 at
+    ∷ check (not (number_at 0 body == 1 + rows + findings)) Miscount at
     ∷ []
 
 -- what is left to check of an entry whose kind is in turn
@@ -68,9 +69,9 @@ kind_checks p k at body =
 -- all that is checked of the bytes from a place on, in order: after the end, loose bytes; before it, cut leaf where
 -- no byte is left, strange letter, out of turn, and then what is left by the kind
 abbrev pub next_checks : Phase → ℕ → List ℕ → List Check
-next_checks p at [] = check (not (is_closed p)) 13 at ∷ []
+next_checks p at [] = check (not (is_closed p)) CutLeaf at ∷ []
 next_checks p at (k ∷ body) =
-    check (is_closed p) 18 at
-    ∷ check (not (is_kind k)) 14 at
-    ∷ check (not (is_in_turn p k)) 15 at
+    check (is_closed p) LooseBytes at
+    ∷ check (not (is_kind k)) StrangeLetter at
+    ∷ check (not (is_in_turn p k)) OutOfTurn at
     ∷ kind_checks p k at body

@@ -1,5 +1,6 @@
 -- What fits a string of bytes as the answer to reading it as a leaf.
 use Rattle.std.specs.Prelude.{◌≡◌, ℕ, List, ◌++◌, length}
+use Rattle.rows.specs.declared.refusals.Refusal.{Refusal}
 use Rattle.rows.specs.Answers.{Answer, gives, refuses, first_refusal}
 use Rattle.leaves.specs.declared.entries.Entry.{Entry}
 use Rattle.leaves.specs.Contents.{Contents, bytes_of, encoding, IsLawful}
@@ -10,7 +11,7 @@ use Rattle.reading.specs.Grammar.{Run}
 
 -- a refusal fits: entries lead from the opening to some phase, and at the place after them this is the first check
 -- that fails
-pub record IsRefusedAt (bytes : List ℕ) (number at : ℕ) : Type 0 where
+pub record IsRefusedAt (bytes : List ℕ) (number : Refusal) (at : ℕ) : Type 0 where
   pub before : List Entry
   pub phase : Phase
   pub left : List ℕ

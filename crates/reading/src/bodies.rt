@@ -4,7 +4,7 @@ ghost use Rattle.std.specs.Option.{option_map};
 ghost use Rattle.rows.specs.Answers.{refusal, first_refusal};
 ghost use Rattle.rows.specs.Lists.{at_rank};
 ghost use Rattle.rows.specs.Times.{horizon};
-ghost use Rattle.verdicts.specs.Found.{tells};
+ghost use Rattle.rows.specs.Found.{tells};
 ghost use Rattle.leaves.specs.declared.entries.Entry.{Entry};
 ghost use Rattle.leaves.specs.Contents.{bytes_of};
 ghost use Rattle.leaves.specs.Bytes.{four, number_at};
@@ -14,8 +14,7 @@ ghost use Rattle.reading.specs.Bodies.{body_of, AreOfSize};
 ghost use Rattle.reading.specs.Checks.{cut};
 
 use leaves::HeadingNumbers;
-use rows::{Fault, Numbers, Refusal};
-use verdicts::{Finding, Verdict};
+use rows::{Fault, Finding, Numbers, Refusal, Verdict};
 
 // Whether the bytes after the kind byte at a place are enough for a body of some size.
 pub(crate) fn check_length(body: &[u8], at: u32, size: usize) -> Result<(), Fault>

@@ -3,8 +3,7 @@ ghost use Rattle.reading.specs.Held.{HoldSomeContents};
 
 use crate::bodies::{body_at, finding_fields, row_fields};
 use leaves::{FINDING_SIZE, Heading, ROW_SIZE};
-use rows::Row;
-use verdicts::Finding;
+use rows::{Finding, Row};
 
 /// A leaf that was read (docs/FORMAT.md): its heading, the bytes of its rows and those of its
 /// findings, which are parts of the bytes that it was read from. Every one holds contents that a
@@ -22,7 +21,7 @@ impl<'a> Leaf<'a> {
     ghost use Rattle.std.specs.Option.{option_map};
     ghost use Rattle.rows.specs.Judging.{plain};
     ghost use Rattle.rows.specs.Lists.{at_rank};
-    ghost use Rattle.verdicts.specs.Found.{tells};
+    ghost use Rattle.rows.specs.Found.{tells};
     ghost use Rattle.leaves.specs.Contents.{Contents};
     ghost use Rattle.reading.specs.Leaves.{heading_of, row_bytes, finding_bytes, Holds, HoldsSome};
 

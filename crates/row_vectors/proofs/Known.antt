@@ -5,7 +5,7 @@ use Rattle.rows.specs.declared.refusals.Refusal.{Refusal}
 use Rattle.rows.specs.declared.refusals.Refusal.TheVariants.{BadFrame, StandingRows, BadAccuracy, IdleRow, NoWindow, LateDeadline, LongPeriod, OffFrame, FullTable, NoRank, Overload, ShortList, CutLeaf, StrangeLetter, OutOfTurn, Miscount, BadFinding, LooseBytes, ShortBuffer, UnknownBound}
 use Rattle.rows.specs.Answers.{gives, refuses, answer}
 use Rattle.rows.specs.Refusals.{number}
-use Rattle.verdicts.proofs.SameFinding.{same_finding}
+use Rattle.rows.proofs.SameFinding.{same_finding}
 use Rattle.brackets.specs.declared.counting.Counts.{Counts}
 use Rattle.brackets.specs.Counting.{both_found}
 

@@ -10,7 +10,7 @@ use Rattle.rows.proofs.Checks.{first_passes, given_is, gives_any, refuses_any, p
 use Rattle.bounds.specs.Meaning.{finest, is_accuracy}
 use Rattle.bounds.specs.Supplied.{exact_steps, linear_tail}
 use Rattle.bounds.specs.Values.{accuracy_of}
-use Rattle.verdicts.specs.Found.{tells, verdict_rest}
+use Rattle.rows.specs.Found.{tells, verdict_rest}
 use Rattle.findings.specs.Asking.{most_above, question_checks}
 use Rattle.findings.specs.Exact.{exact_rest}
 use Rattle.findings.specs.Findings.{row_finding}
@@ -23,7 +23,7 @@ use Rattle.row_vectors.specs.declared.answers.Answer.{Answer as Told}
 use Rattle.row_vectors.specs.declared.answers.Answer.TheVariants.{Counted as counted, Refused as refused}
 use Rattle.row_vectors.specs.Agreeing.{Agree, IsRefusedWhereFull, counts_of}
 use Rattle.row_vectors.specs.Answering.{AreAnswers, IsAnswerTo}
-use Rattle.verdicts.proofs.SameFinding.{same_finding}
+use Rattle.rows.proofs.SameFinding.{same_finding}
 use Rattle.row_vectors.proofs.Known.{same_fault, same_counts, given_so, refused_so}
 
 module _ (q : Question) (calls : Calls) (are : AreAnswers q calls) where

@@ -2,7 +2,7 @@
 use Rattle.std.specs.Prelude.{◌≡◌, Bool, true, false, Option, Ok, Err, Result, ℕ}
 use Rattle.rows.specs.declared.refusals.Fault.{Fault}
 use Rattle.rows.specs.declared.refusals.Refusal.TheVariants.{FullTable}
-use Rattle.verdicts.specs.Found.{verdict_rest}
+use Rattle.rows.specs.Found.{verdict_rest}
 use Rattle.brackets.specs.declared.counting.Counts.{Counts}
 use Rattle.brackets.specs.Bracketing.{IsNoLater}
 use Rattle.row_vectors.specs.declared.calls.Calls.{Calls}

@@ -6,7 +6,7 @@ use Rattle.bounds.specs.Supplied.{exact_steps, linear_tail}
 use Rattle.bounds.specs.Values.{accuracy_of}
 use Rattle.rows.specs.Answers.{Answer, gives, refuses, answer, checked}
 use Rattle.rows.specs.Refusals.{number}
-use Rattle.verdicts.specs.Found.{tells, verdict_rest}
+use Rattle.rows.specs.Found.{tells, verdict_rest}
 use Rattle.findings.specs.Asking.{question_checks}
 use Rattle.findings.specs.Exact.{exact_rest, response}
 use Rattle.findings.specs.Findings.{row_finding}

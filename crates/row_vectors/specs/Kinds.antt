@@ -1,6 +1,6 @@
 -- The kinds of answers.
-use Rattle.verdicts.specs.declared.verdicts.Verdict.{Verdict}
-use Rattle.verdicts.specs.declared.verdicts.Verdict.TheVariants.{Meets, Misses}
+use Rattle.rows.specs.declared.verdicts.Verdict.{Verdict}
+use Rattle.rows.specs.declared.verdicts.Verdict.TheVariants.{Meets, Misses}
 use Rattle.row_vectors.specs.declared.answers.Answer.{Answer}
 use Rattle.row_vectors.specs.declared.answers.Answer.TheVariants.{Counted as counted, Refused as refused}
 use Rattle.row_vectors.specs.declared.kinds.Kind.{Kind}

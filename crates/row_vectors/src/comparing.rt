@@ -1,6 +1,6 @@
 // The answers of the calls, beside what is told.
 ghost use Rattle.std.specs.Prelude.{IsTrue, ◌≡◌, ◌↔◌, IsNone};
-ghost use Rattle.verdicts.specs.Found.{verdict_rest};
+ghost use Rattle.rows.specs.Found.{verdict_rest};
 ghost use Rattle.brackets.specs.Bracketing.{IsNoLater};
 ghost use Rattle.brackets.specs.Counting.{gap};
 ghost use Rattle.row_vectors.specs.Agreeing.{

@@ -2,4 +2,11 @@ pub mod Ceiling
 pub mod Rising
 pub mod SameRow
 pub mod Checks
+pub mod Ranked
 pub mod Places
+pub mod SameFinding
+pub mod Listed
+pub mod Flaws
+pub mod Making
+pub mod Moved
+pub mod Standing

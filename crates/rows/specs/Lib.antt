@@ -2,6 +2,10 @@ pub mod Refusals
 pub mod Shown
 pub mod Answers
 pub mod Lists
+pub mod Ranks
 pub mod Times
 pub mod Counting
+pub mod Frames
 pub mod Judging
+pub mod Books
+pub mod Found

@@ -4,6 +4,7 @@ ghost use Rattle.rows.specs.Judging.{plain};
 ghost use Rattle.rows.specs.Times.{is_frame};
 ghost use Rattle.rows.specs.Counting.{is_on_frame, window, steps, CountsJobs, StepsRise};
 
+use crate::frames::Frame;
 use crate::tasks::{Numbers, Row};
 
 /// The last instant that anything is asked about, in ticks (2^24). No period and no frame is
@@ -41,11 +42,18 @@ impl Row {
         self.deadline - self.jitter
     }
 
-    /// Whether the period divides the frame.
-    pub fn stands_on(&self, frame: u32) -> bool
-        ensures { result ≡ is_on_frame frame self.now }
+    /// Whether the period divides a number of ticks.
+    pub fn divides(&self, ticks: u32) -> bool
+        ensures { result ≡ is_on_frame ticks self.now }
     {
-        frame % self.period == 0
+        ticks % self.period == 0
+    }
+
+    /// Whether the period divides the frame (docs/RULES.md, Frame and parts).
+    pub fn stands_on(&self, frame: &Frame) -> bool
+        ensures { result ≡ is_on_frame frame.now.ticks self.now }
+    {
+        self.divides(frame.ticks())
     }
 
     /// The exact steps at an instant, in units of work: work × ceiling((at + jitter) / period), the

@@ -1,6 +1,8 @@
 // Why a call was refused, and where. One enum and one fault for every layer of the toolkit.
-ghost use Rattle.std.specs.Prelude.{◌≡◌, Some};
+ghost use Rattle.std.specs.Prelude.{◌≡◌, ◌==◌, Some, find};
 ghost use Rattle.rows.specs.Refusals.{number, words};
+ghost use Rattle.rows.specs.declared.refusals.Refusal.{Refusal};
+ghost use Rattle.rows.specs.declared.refusals.TheConstants.Refusal.{ALL};
 ghost use Rattle.rows.specs.Shown.{shown_fault};
 
 use std::error::Error;
@@ -39,6 +41,39 @@ pub struct Fault {
 }
 
 impl Refusal {
+    /// All refusals, in the order of their numbers.
+    pub const ALL: [Refusal; 20] = [
+        Refusal::BadFrame,
+        Refusal::StandingRows,
+        Refusal::BadAccuracy,
+        Refusal::IdleRow,
+        Refusal::NoWindow,
+        Refusal::LateDeadline,
+        Refusal::LongPeriod,
+        Refusal::OffFrame,
+        Refusal::FullTable,
+        Refusal::NoRank,
+        Refusal::Overload,
+        Refusal::ShortList,
+        Refusal::CutLeaf,
+        Refusal::StrangeLetter,
+        Refusal::OutOfTurn,
+        Refusal::Miscount,
+        Refusal::BadFinding,
+        Refusal::LooseBytes,
+        Refusal::ShortBuffer,
+        Refusal::UnknownBound,
+    ];
+
+    /// All of them. Each is the first that is known by its number, and so the only one.
+    #[tactic(auto, using(crate::proofs::Listed::listed))]
+    pub fn all() -> [Refusal; 20]
+        ensures all { result ≡ ALL }
+        ensures each { (r : Refusal) → find (λ x. number x == number r) ALL ≡ Some r }
+    {
+        Refusal::ALL
+    }
+
     /// The fault of this refusal that tells a position.
     pub fn at(self, position: u32) -> Fault
         ensures { result ≡ record { refusal = self; at = position } }

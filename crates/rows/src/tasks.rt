@@ -27,3 +27,15 @@ pub struct Row {
     pub ghost timely: { deadline ≤ period },
     pub ghost near: { period ≤ horizon },
 }
+
+// What a place of a list holds that no row has been put into.
+impl Default for Row {
+    fn default() -> Row {
+        Row {
+            work: 1,
+            deadline: 1,
+            period: 1,
+            jitter: 0,
+        }
+    }
+}

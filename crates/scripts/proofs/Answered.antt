@@ -2,6 +2,7 @@
 use Rattle.std.proofs.Common.{◌≡◌, ℕ, ◌<◌, ◌^◌, IsTrue, cond, List, [], ◌∷◌, ◌++◌, map, refl, ap, ◌∙◌, arith}
 use Rattle.std.specs.List.{AllByRecursion}
 use Rattle.std.proofs.lemmas.Bool.Decides.{nat_tests}
+use Rattle.rows.specs.declared.refusals.Refusal.TheVariants.{BadAccuracy}
 use Rattle.rows.specs.Answers.{refuses}
 use Rattle.bounds.specs.Meaning.{Meaning, is_accuracy}
 use Rattle.bounds.specs.Supplied.{exact_steps, linear_tail}
@@ -52,8 +53,8 @@ tail_answered k fine calls fits =
     let lines = map call_text calls in
     output_of (linear_text k) calls (Plain-linear k small) fits
     ∙ ap (first_read unnamed 1 lines) (linear_reads k small)
-    ∙ ap (λ v. reaction_text 1 (cond {A = State × Reaction} v (named (linear_tail k) first_book, silent) (unnamed, answers (refuses 3 0))).1
-    ++ output_from (record { number = 1; state = (cond {A = State × Reaction} v (named (linear_tail k) first_book, silent) (unnamed, answers (refuses 3 0))).0 }) lines) fine
+    ∙ ap (λ v. reaction_text 1 (cond {A = State × Reaction} v (named (linear_tail k) first_book, silent) (unnamed, answers (refuses BadAccuracy 0))).1
+    ++ output_from (record { number = 1; state = (cond {A = State × Reaction} v (named (linear_tail k) first_book, silent) (unnamed, answers (refuses BadAccuracy 0))).0 }) lines) fine
     ∙ calls_answered (linear_tail k) calls fits 1 first_book
 
 pub calls_are_answered : CallsAreAnswered

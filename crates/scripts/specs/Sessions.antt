@@ -1,5 +1,6 @@
 -- What the lines of a script do, and what is written for them.
 use Rattle.std.specs.Prelude.{ℕ, ◌+◌, ◌-◌, ◌^◌, Bool, true, false, List, [], ◌∷◌, ◌++◌, min, if◌then◌else◌}
+use Rattle.rows.specs.declared.refusals.Refusal.TheVariants.{BadAccuracy}
 use Rattle.rows.specs.Answers.{Answer, refuses}
 use Rattle.bounds.specs.Meaning.{Meaning, is_accuracy}
 use Rattle.bounds.specs.Supplied.{exact_steps, linear_tail}
@@ -37,7 +38,7 @@ is_named (named m b) = true
 -- over does nothing
 abbrev pub naming : Line → State × Reaction
 naming Exact = (named exact_steps first_book, silent)
-naming (Linear k) = if is_accuracy k then (named (linear_tail k) first_book, silent) else (unnamed, answers (refuses 3 0))
+naming (Linear k) = if is_accuracy k then (named (linear_tail k) first_book, silent) else (unnamed, answers (refuses BadAccuracy 0))
 naming (NoCall expected) = (unnamed, no_call expected)
 naming _ = (unnamed, silent)
 

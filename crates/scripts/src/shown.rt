@@ -5,9 +5,8 @@ ghost use Rattle.scripts.specs.Texts.{answer_text, call_text, no_call_text};
 
 use crate::expecting::Expected;
 use admission::{Call, Reply};
-use rows::Refusal;
+use rows::{Refusal, Verdict};
 use std::fmt;
-use verdicts::Verdict;
 
 /// A call, written as the line of a script that makes it: "dismiss 1".
 #[derive(Clone, Copy, PartialEq, Eq, Debug)]

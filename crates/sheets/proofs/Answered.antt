@@ -3,13 +3,14 @@ use Rattle.std.proofs.Common.{◌≡◌, ℕ, ◌+◌, ◌≤◌, ltb, List, [],
 use Rattle.std.specs.Prelude.{IsOk}
 use Rattle.std.proofs.lemmas.Bool.{le-ltb}
 use Rattle.std.proofs.lemmas.Grind.{flat_map-append}
+use Rattle.rows.specs.declared.refusals.Refusal.TheVariants.{ShortBuffer}
 use Rattle.rows.specs.declared.refusals.Fault.{Fault}
 use Rattle.rows.specs.Answers.{Answer, gives, refuses, answer}
 use Rattle.rows.proofs.Checks.{passes_on}
 use Rattle.bounds.specs.Values.{meaning_of}
 use Rattle.bounds.specs.Lemmas.SuppliedLaws.{laws_of}
 use Rattle.findings.proofs.Tables.{table_says}
-use Rattle.verdicts.proofs.SameFinding.{same_findings}
+use Rattle.rows.proofs.SameFinding.{same_findings}
 use Rattle.leaves.proofs.Filing.{framed}
 use Rattle.leaves.specs.declared.entries.Entry.TheVariants.{Finding as finding, End as end}
 use Rattle.leaves.specs.Contents.{Contents, bytes_of, IsLawful as IsLawfulLeaf}
@@ -55,7 +56,7 @@ answer_length bytes (refuses n at) refused = omega arith
 
 -- with room for it an answer is given
 pub put_with_room : (a : Answer Contents) (old new : List ℕ) (r : Result ℕ Fault) → length (answer_bytes a) ≤ length old → IsPut a old new r → IsOk r
-put_with_room a old new r room put = by r (put.told ∙ passes_on (ltb (length old) (length (answer_bytes a))) 19 0 (gives (length (answer_bytes a))) (le-ltb (length old) (length (answer_bytes a)) room))
+put_with_room a old new r room put = by r (put.told ∙ passes_on (ltb (length old) (length (answer_bytes a))) ShortBuffer 0 (gives (length (answer_bytes a))) (le-ltb (length old) (length (answer_bytes a)) room))
   where
     by : (r : Result ℕ Fault) → answer (λ n. n) r ≡ gives (length (answer_bytes a)) → IsOk r
     by (Ok n) told = refl

@@ -2,6 +2,8 @@
 use Rattle.std.proofs.Common.{◌≡◌, ℕ, ◌+◌, ◌<◌, ◌≤◌, ◌⊎◌, inl, inr, Bool, true, false, eqb, leb, ◌||◌, List, [], ◌∷◌, ◌++◌, map, length, take, drop, sym, refl, ap, ◌∙◌, subst, ⊎_elim, Some, None, if◌then◌else◌, arith}
 use Rattle.std.proofs.lemmas.Bool.{cases_lt, eqb-true, le-leb}
 use Rattle.std.proofs.lemmas.List.{append_assoc, get_or_append_left, length-append, length-take-le, take-append-drop, take_all}
+use Rattle.rows.specs.declared.refusals.Refusal.{Refusal}
+use Rattle.rows.specs.declared.refusals.Refusal.TheVariants.{FullTable}
 use Rattle.rows.specs.Answers.{Answer, gives, refuses, refuses_at, first_refusal}
 use Rattle.rows.specs.Judging.{flaw_checks, frame_flaws}
 use Rattle.rows.specs.Times.{most_rows}
@@ -55,7 +57,7 @@ module _ (body more : List ℕ) where
 
   row_checks_stay : (h n at : ℕ) → row_size ≤ length body → first_refusal (row_entry_checks h n at (body ++ more)) ≡ first_refusal (row_entry_checks h n at body)
   row_checks_stay h n at whole =
-      ap (refuses_at 9 (if leb most_rows n then Some at else None))
+      ap (refuses_at FullTable (if leb most_rows n then Some at else None))
       (uncut row_size at (body ++ more) _ (omega (arith, length-append body more))
       ∙ ap (λ r. first_refusal (flaw_checks (frame_flaws h) r at)) (row_stays whole)
       ∙ sym (uncut row_size at body _ whole))
@@ -89,7 +91,7 @@ sheet_length : (t : Table) → length (sheet_bytes t) ≡ row_place (length t.ro
 sheet_length t = omega (arith, length-append (entry_bytes (heading t.heading)) (bytes_of (map row t.rows)), rows_length t.rows)
 
 -- a refusal of so many bytes as decide is that of more bytes
-refusal_stays : (front more : List ℕ) (number at : ℕ) → length front ≡ deciding → IsRefusedAt front number at → IsRefusedAt (front ++ more) number at
+refusal_stays : (front more : List ℕ) (number : Refusal) (at : ℕ) → length front ≡ deciding → IsRefusedAt front number at → IsRefusedAt (front ++ more) number at
 refusal_stays [] more number at size refused = absurd (omega arith)
 refusal_stays (k ∷ body) more number at size (before_heading refused) = before_heading (opening_stays k body more (omega arith) ∙ refused)
 refusal_stays (k ∷ body) more number at size (in_rows t left lawful split refused) =

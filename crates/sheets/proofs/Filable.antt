@@ -7,10 +7,10 @@ use Rattle.std.proofs.lemmas.Bool.{and_from, and_parts, le-leb, eq-eqb, ne_eqb, 
 use Rattle.rows.specs.declared.tasks.Row.{Row}
 use Rattle.rows.specs.Counting.{is_on_frame, window}
 use Rattle.rows.specs.Times.{horizon, is_frame}
-use Rattle.verdicts.specs.declared.verdicts.Finding.{Finding}
-use Rattle.verdicts.specs.declared.verdicts.Verdict.{Verdict}
-use Rattle.verdicts.specs.declared.verdicts.Verdict.TheVariants.{Meets, Misses}
-use Rattle.verdicts.specs.Found.{Found, tells, verdict_rest}
+use Rattle.rows.specs.declared.verdicts.Finding.{Finding}
+use Rattle.rows.specs.declared.verdicts.Verdict.{Verdict}
+use Rattle.rows.specs.declared.verdicts.Verdict.TheVariants.{Meets, Misses}
+use Rattle.rows.specs.Found.{Found, tells, verdict_rest}
 use Rattle.bounds.specs.Instants.{count, IsFirst}
 use Rattle.bounds.specs.Lemmas.Instants.{count_le, count_more}
 use Rattle.bounds.specs.Meaning.{Meaning}

@@ -2,12 +2,13 @@
 use Rattle.std.proofs.Common.{◌≡◌, ℕ, ◌+◌, ltb, List, [], ◌∷◌, map, length, take, Ok, Err, Result, sym, ap, ◌∙◌, arith}
 use Rattle.std.specs.Prelude.{MatchResult, IfOk, OnErr}
 use Rattle.std.proofs.lemmas.List.{length-map, take-map}
+use Rattle.rows.specs.declared.refusals.Refusal.TheVariants.{ShortBuffer}
 use Rattle.rows.specs.declared.refusals.Fault.{Fault}
 use Rattle.rows.specs.declared.tasks.Row.{Row}
 use Rattle.rows.specs.Answers.{check, checked, gives}
 use Rattle.rows.specs.Lists.{written}
-use Rattle.verdicts.specs.declared.verdicts.Finding.{Finding}
-use Rattle.verdicts.specs.Found.{Found, tells}
+use Rattle.rows.specs.declared.verdicts.Finding.{Finding}
+use Rattle.rows.specs.Found.{Found, tells}
 use Rattle.bounds.specs.Values.{meaning_of}
 use Rattle.bounds.specs.Lemmas.SuppliedLaws.{laws_of}
 use Rattle.findings.proofs.Tables.{length_findings_below}
@@ -51,13 +52,13 @@ filled_first t old new n count filled =
 
 module _ (n : HeadingNumbers) (rs : List Row) (fs : List Finding) (c : Contents) (are : AreOf n rs fs c) (lawful : IsLawfulLeaf c) where
   -- what filing a lawful leaf whole answers is what putting its bytes answers
-  pub filing_answers : (size k : ℕ) → checked (file_checks n rs fs size) k ≡ checked (check (ltb size (leaf_length (length rs))) 19 0 ∷ []) k
+  pub filing_answers : (size k : ℕ) → checked (file_checks n rs fs size) k ≡ checked (check (ltb size (leaf_length (length rs))) ShortBuffer 0 ∷ []) k
   filing_answers size k = room_is_left n rs fs size c k are lawful
 
   pub put_answers : (size : ℕ) → checked (file_checks n rs fs size) (leaf_length (length rs)) ≡ checked (buffer_checks (gives c) size) (length (answer_bytes (gives c)))
   put_answers size =
       let same : leaf_length (length rs) ≡ length (encoding c) = ap (λ xs. leaf_length (length xs)) (sym are.rows) ∙ sym (encoding_length c lawful) in
-      filing_answers size (leaf_length (length rs)) ∙ ap (λ k. checked (check (ltb size k) 19 0 ∷ []) k) same
+      filing_answers size (leaf_length (length rs)) ∙ ap (λ k. checked (check (ltb size k) ShortBuffer 0 ∷ []) k) same
 
   -- and it puts them
   pub puts : (old new : List ℕ) (r : Result ℕ Fault) → IfOk r (λ k. (d : Contents) × AreOf n rs fs d × IsLawfulLeaf d × (new ≡ written old 0 (encoding d)) × IsReadAs (take k new) (gives d)) → OnErr r (new ≡ old)

@@ -3,6 +3,7 @@ use Rattle.std.proofs.Common.{◌≡◌, ℕ, ◌+◌, ◌<◌, ◌≤◌, true,
 use Rattle.std.specs.List.{AllPass}
 use Rattle.std.proofs.lemmas.List.Elements.{All-head, All-tail}
 use Rattle.std.proofs.lemmas.List.{append_assoc, append-nil}
+use Rattle.rows.specs.declared.refusals.Refusal.{Refusal}
 use Rattle.rows.specs.declared.tasks.Row.{Row}
 use Rattle.rows.specs.Answers.{Answer, gives, refuses, first_refusal}
 use Rattle.rows.specs.Counting.{is_on_frame}
@@ -65,14 +66,14 @@ tables_once t u xs ys lawful fair stuck held same =
     (ap₂ table once.0 later.0, later.1)
 
 -- no refusal comes before the heading of bytes that begin with a sheet
-opened : (bytes : List ℕ) (t : Table) (left : List ℕ) (number at : ℕ) → bytes ≡ sheet_bytes t ++ left → first_refusal (next_checks Opening 0 bytes) ≡ refuses number at → ⊥
+opened : (bytes : List ℕ) (t : Table) (left : List ℕ) (number : Refusal) (at : ℕ) → bytes ≡ sheet_bytes t ++ left → first_refusal (next_checks Opening 0 bytes) ≡ refuses number at → ⊥
 opened bytes t left number at same refused =
     let passes = ap (λ xs. first_refusal (next_checks Opening 0 xs)) (same ∙ append_assoc (entry_bytes (heading t.heading)) (bytes_of (map row t.rows)) left) ∙ step_passes (opens {h = t.heading}) opening_sound 0 (bytes_of (map row t.rows) ++ left) in
     let both = sym refused ∙ passes in
     cc
 
 -- a table and a refusal do not both fit
-not_both : (bytes : List ℕ) (t : Table) (number at : ℕ) → Fits bytes (gives t) → IsRefusedAt bytes number at → ⊥
+not_both : (bytes : List ℕ) (t : Table) (number : Refusal) (at : ℕ) → Fits bytes (gives t) → IsRefusedAt bytes number at → ⊥
 not_both bytes t number at fits (before_heading refused) = opened bytes t [] number at (fits.1 ∙ sym (append-nil (sheet_bytes t))) refused
 not_both bytes t number at fits (in_rows u left lawful split refused) =
     let both = tables_once t u [] left fits.0 lawful (ended_stuck t.heading (length t.rows)) (refused_stuck u.heading (length u.rows) number at left refused) (append-nil (sheet_bytes t) ∙ sym fits.1 ∙ split) in
@@ -80,7 +81,7 @@ not_both bytes t number at fits (in_rows u left lawful split refused) =
     cc
 
 -- two refusals that fit are one
-one_refusal : (bytes : List ℕ) (n at m to : ℕ) → IsRefusedAt bytes n at → IsRefusedAt bytes m to → ◌≡◌ {A = Answer Table} (refuses n at) (refuses m to)
+one_refusal : (bytes : List ℕ) (n : Refusal) (at : ℕ) (m : Refusal) (to : ℕ) → IsRefusedAt bytes n at → IsRefusedAt bytes m to → ◌≡◌ {A = Answer Table} (refuses n at) (refuses m to)
 one_refusal bytes n at m to (before_heading refused) (before_heading also) = again n at m to (sym refused ∙ also)
 one_refusal bytes n at m to (before_heading refused) (in_rows t left lawful split also) = absurd (opened bytes t left n at split refused)
 one_refusal bytes n at m to (in_rows t left lawful split refused) (before_heading also) = absurd (opened bytes t left m to split also)

@@ -2,6 +2,7 @@
 use Rattle.std.proofs.Common.{◌≡◌, ℕ, ◌+◌, ◌<◌, true, List, [], ◌∷◌, ◌++◌, length, sym, refl, ap, ◌∙◌, subst, arith}
 use Rattle.std.proofs.lemmas.List.Elements.{All-append, All-cons, All-nil}
 use Rattle.std.proofs.lemmas.List.{append-nil, length-append, map_push}
+use Rattle.rows.specs.declared.refusals.Refusal.{Refusal}
 use Rattle.rows.specs.declared.tasks.Row.{Row}
 use Rattle.rows.specs.Answers.{gives, refuses, first_refusal}
 use Rattle.rows.specs.Counting.{is_on_frame}
@@ -47,7 +48,7 @@ module _ (bytes : List ℕ) (t : Table) (here : Reading) (has : HasRead bytes t 
         }
 
   -- where a check refuses, the refusal fits
-  pub read_refused : (number at : ℕ) → refuses number at ≡ first_refusal (row_checks here.phase here.left) → IsRefusedAt bytes number at
+  pub read_refused : (number : Refusal) (at : ℕ) → refuses number at ≡ first_refusal (row_checks here.phase here.left) → IsRefusedAt bytes number at
   read_refused number at refused = in_rows t here.left has.lawful has.split (ap (λ p. first_refusal (row_checks p here.left)) (sym has.phase) ∙ sym refused)
 
   -- and where nothing is left, the table fits

@@ -1,5 +1,6 @@
 -- The answer to a string of bytes: the leaf of the survey of the sheet that they are, or a refusal.
 use Rattle.std.specs.Prelude.{◌≡◌, ℕ, ◌+◌, List, [], ◌∷◌, ◌++◌, length, take, Result, MatchResult, nat_lt}
+use Rattle.rows.specs.declared.refusals.Refusal.TheVariants.{ShortBuffer}
 use Rattle.rows.specs.declared.refusals.Fault.{Fault}
 use Rattle.rows.specs.Answers.{Answer, gives, refuses, answer, Check, check, checked}
 use Rattle.rows.specs.Lists.{written}
@@ -49,7 +50,7 @@ FirstDecide = (bytes : List ℕ) (a : Answer Contents) → Answers (take decidin
 
 -- what is checked of a buffer of so many bytes before an answer is put into it: short buffer
 abbrev pub buffer_checks : Answer Contents → ℕ → List Check
-buffer_checks a size = check (nat_lt size (length (answer_bytes a))) 19 0 ∷ []
+buffer_checks a size = check (nat_lt size (length (answer_bytes a))) ShortBuffer 0 ∷ []
 
 -- an answer is put into a buffer: where there is room, its length is told, and its bytes are written over those of the
 -- buffer from the first on; where there is none, that is told, and the buffer is as it was

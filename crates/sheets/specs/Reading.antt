@@ -1,5 +1,7 @@
 -- What fits a string of bytes as the answer to reading it as a sheet.
 use Rattle.std.specs.Prelude.{◌≡◌, ℕ, ◌||◌, List, [], ◌∷◌, ◌++◌, length, ◌==◌}
+use Rattle.rows.specs.declared.refusals.Refusal.{Refusal}
+use Rattle.rows.specs.declared.refusals.Refusal.TheVariants.{OutOfTurn}
 use Rattle.rows.specs.Answers.{Answer, gives, refuses, Check, check, first_refusal}
 use Rattle.leaves.specs.Entries.{letter_A, letter_Z}
 use Rattle.reading.specs.declared.phases.Phase.{Phase}
@@ -17,12 +19,12 @@ phase_after t = Rows t.heading (length t.rows)
 abbrev pub row_checks : Phase → List ℕ → List Check
 row_checks p [] = []
 row_checks p (k ∷ body) =
-    check (k == letter_A || k == letter_Z) 15 (place_of p)
+    check (k == letter_A || k == letter_Z) OutOfTurn (place_of p)
     ∷ next_checks p (place_of p) (k ∷ body)
 
 -- a refusal fits: it is that of the first check that fails, before the heading as in a leaf, or else in the rows,
 -- after the sheet of some lawful table
-pub data IsRefusedAt (bytes : List ℕ) (number at : ℕ) : Type 0 where
+pub data IsRefusedAt (bytes : List ℕ) (number : Refusal) (at : ℕ) : Type 0 where
   before_heading : first_refusal (next_checks Opening 0 bytes) ≡ refuses number at → IsRefusedAt bytes number at
   in_rows : (t : Table) (left : List ℕ) → IsLawful t → bytes ≡ sheet_bytes t ++ left
       → first_refusal (row_checks (phase_after t) left) ≡ refuses number at → IsRefusedAt bytes number at

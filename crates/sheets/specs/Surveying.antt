@@ -1,7 +1,8 @@
 -- The survey of the table of a sheet.
 use Rattle.std.specs.Prelude.{◌≡◌, ℕ, List, [], ◌∷◌, map, length, nat_lt}
+use Rattle.rows.specs.declared.refusals.Refusal.TheVariants.{ShortList}
 use Rattle.rows.specs.Answers.{Check, check}
-use Rattle.verdicts.specs.Found.{Found, tells}
+use Rattle.rows.specs.Found.{Found, tells}
 use Rattle.bounds.specs.Values.{meaning_of}
 use Rattle.findings.specs.Tables.{findings_of, TableSays}
 use Rattle.leaves.specs.Contents.{Contents}
@@ -17,7 +18,7 @@ SurveySays t = TableSays (meaning_of t.heading.bound) t.heading.frame t.rows
 
 -- what is checked of a survey that is to fill a list of so many places: short list
 abbrev pub list_checks : Table → ℕ → List Check
-list_checks t places = check (nat_lt places (length t.rows)) 12 0 ∷ []
+list_checks t places = check (nat_lt places (length t.rows)) ShortList 0 ∷ []
 
 -- contents are the survey of a table: they have its heading and its rows, and their findings are those of the table
 pub record IsSurveyOf (t : Table) (c : Contents) : Type 0 where

@@ -9,8 +9,7 @@ ghost use Rattle.sheets.specs.Surveying.{IsSurveyOf};
 use crate::reading_sheets::read;
 use crate::sheets::Sheet;
 use leaves::{END_SIZE, FINDING_SIZE, HEADING_SIZE, ROW_SIZE};
-use rows::{Fault, MOST_ROWS, Refusal};
-use verdicts::{Finding, Verdict};
+use rows::{Fault, Finding, MOST_ROWS, Refusal, Verdict};
 use writing::file;
 
 /// How many bytes the sheet of a full table has; none is longer.
@@ -63,7 +62,7 @@ fn file_survey(sheet: &Sheet, buffer: &mut [u8]) -> Result<usize, Fault>
 
 // Puts a refusal into a buffer: its letter, its number and its place.
 fn put_refusal(fault: Fault, buffer: &mut [u8]) -> Result<usize, Fault>
-    ensures { IsPut (refuses (number fault.refusal) fault.at) buffer.old buffer.new result }
+    ensures { IsPut (refuses fault.refusal fault.at) buffer.old buffer.new result }
 {
     let [a, b, c, d] = fault.at.to_be_bytes();
     let bytes = [b'X', fault.refusal.number(), a, b, c, d];

@@ -1,9 +1,8 @@
 // What a sheet that was read holds, and its survey.
 use findings::recount;
 use leaves::Heading;
-use rows::{Fault, MOST_ROWS, Row};
+use rows::{Fault, Finding, MOST_ROWS, Row};
 use std::marker::Model;
-use verdicts::Finding;
 
 /// A sheet that was read (docs/FORMAT.md, Sheets): a table that waits to be surveyed, with the
 /// heading that tells its frame and the bound to count by.
@@ -35,7 +34,7 @@ impl Sheet {
     ghost use Rattle.rows.specs.Counting.{is_on_frame};
     ghost use Rattle.rows.specs.Lists.{written, StaysOutside};
     ghost use Rattle.rows.specs.Times.{most_rows};
-    ghost use Rattle.verdicts.specs.Found.{tells};
+    ghost use Rattle.rows.specs.Found.{tells};
     ghost use Rattle.sheets.specs.Surveying.{list_checks, table_findings, SurveySays};
     ghost use Rattle.sheets.specs.Tables.{table, IsLawful};
 

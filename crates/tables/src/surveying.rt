@@ -3,15 +3,14 @@ ghost use Rattle.std.specs.Prelude.{◌≡◌, map, length, MatchResult, OnOk};
 ghost use Rattle.rows.specs.Answers.{answer, checked};
 ghost use Rattle.rows.specs.Judging.{plain, rows_of};
 ghost use Rattle.rows.specs.Lists.{written, StaysOutside};
-ghost use Rattle.verdicts.specs.Found.{tells};
+ghost use Rattle.rows.specs.Found.{tells};
 ghost use Rattle.findings.specs.Tables.{findings_of, TableSays};
 ghost use Rattle.tables.specs.Surveys.{survey_checks};
 
 use crate::judgement::{check_numbers, make_rows};
 use bounds::Bound;
 use findings::{check_size, recount};
-use rows::{Fault, Numbers};
-use verdicts::Finding;
+use rows::{Fault, Finding, Numbers};
 
 /// The survey of a table (docs/RULES.md, Surveys): judges every place and puts the findings of the
 /// rows into the list, in rank order; the places past the last row stay. Answers how many rows

@@ -1,6 +1,6 @@
 -- The digest of findings.
 use Rattle.std.specs.Prelude.{ℕ, ◌+◌, ◌*◌, ◌%◌, ◌^◌, unwrap_or}
-use Rattle.verdicts.specs.Found.{Found}
+use Rattle.rows.specs.Found.{Found}
 
 -- a digest with one number more, in 64 bits
 abbrev pub digest_with_number : ℕ → ℕ → ℕ

@@ -1,6 +1,6 @@
 // Digests of findings.
 ghost use Rattle.std.specs.Prelude.{◌≡◌, map, fold};
-ghost use Rattle.verdicts.specs.Found.{tells};
+ghost use Rattle.rows.specs.Found.{tells};
 ghost use Rattle.timing.specs.Digests.{digest_with};
 
 use findings::Finding;

@@ -4,10 +4,9 @@ use crate::outcomes::{NO_FINDINGS, Outcome};
 use crate::works::{Table, Work};
 use bounds::Bound;
 use findings::recount;
-use rows::{Fault, MOST_ROWS};
+use rows::{Fault, MOST_ROWS, count_met};
 use std::rt::Clock;
 use std::time::Instant;
-use verdicts::count_met;
 
 // The digest after a survey of each table, and how many rows met.
 fn survey_round<B: Bound>(bound: &B, tables: &[Table], digest: u64) -> Result<(usize, u64), Fault> {

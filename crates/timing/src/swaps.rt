@@ -5,10 +5,9 @@ use crate::works::{Table, Work};
 use admission::Bench;
 use anyhow::bail;
 use bounds::Bound;
-use rows::{Fault, Numbers};
+use rows::{Fault, Numbers, count_met};
 use std::rt::Clock;
 use std::time::Instant;
-use verdicts::count_met;
 
 // A bench on which the rows of a table stand.
 fn filled<B: Bound + Drop>(bound: B, table: &Table) -> Result<Bench<B>, Fault> {

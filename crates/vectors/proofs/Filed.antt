@@ -4,7 +4,7 @@ use Rattle.rows.specs.declared.tasks.Row.{Row}
 use Rattle.rows.specs.Answers.{gives, checked}
 use Rattle.rows.specs.Lists.{written}
 use Rattle.rows.proofs.Checks.{given_is}
-use Rattle.verdicts.specs.declared.verdicts.Finding.{Finding}
+use Rattle.rows.specs.declared.verdicts.Finding.{Finding}
 use Rattle.leaves.specs.declared.entries.HeadingNumbers.{HeadingNumbers}
 use Rattle.leaves.specs.Entries.{leaf_length}
 use Rattle.leaves.specs.Contents.{Contents, entries, encoding, IsLawful}

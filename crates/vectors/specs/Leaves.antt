@@ -5,7 +5,7 @@ use Rattle.rows.specs.declared.tasks.Row.{Row}
 use Rattle.rows.specs.Answers.{gives}
 use Rattle.rows.specs.Counting.{is_on_frame}
 use Rattle.rows.specs.Times.{most_rows}
-use Rattle.verdicts.specs.declared.verdicts.Finding.{Finding}
+use Rattle.rows.specs.declared.verdicts.Finding.{Finding}
 use Rattle.leaves.specs.declared.entries.HeadingNumbers.{HeadingNumbers}
 use Rattle.leaves.specs.Contents.{Contents}
 use Rattle.leaves.specs.Entries.{row_size, finding_size}

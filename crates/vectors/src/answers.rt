@@ -1,11 +1,10 @@
 // What reading answers to a string of bytes: the contents of a leaf, or a refusal.
 use anyhow::{Context, bail};
 use leaves::HeadingNumbers;
-use rows::{Fault, Numbers, Refusal};
+use rows::{Fault, Finding, Numbers, Refusal, Verdict};
 use std::alloc::Global;
 use std::fmt;
 use tallies::{numbers, refused, row_list};
-use verdicts::{Finding, Verdict};
 
 /// The refusals that reading gives, by their numbers.
 pub(crate) const REFUSALS: [Refusal; 15] = [

@@ -2,9 +2,8 @@
 use crate::answers::Contents;
 use anyhow::Context;
 use leaves::{Entry, HeadingNumbers};
-use rows::Numbers;
+use rows::{Finding, Numbers};
 use std::alloc::{AllocError, Global};
-use verdicts::Finding;
 
 /// The contents of a leaf as far as its entries have come.
 #[derive(Debug, Drop)]

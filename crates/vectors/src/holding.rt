@@ -2,9 +2,8 @@
 use crate::answers::Contents;
 use leaves::{END_SIZE, FINDING_SIZE, HEADING_SIZE, ROW_SIZE};
 use reading::Leaf;
-use rows::{Numbers, Row};
+use rows::{Finding, Numbers, Row};
 use std::alloc::{AllocError, Global};
-use verdicts::Finding;
 
 /// Whether a leaf that was read from the bytes holds these contents: the heading, the row and the
 /// finding of each rank and none past them, and its two runs of entries as they stand in the bytes.

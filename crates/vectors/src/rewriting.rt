@@ -8,9 +8,8 @@ ghost use Rattle.writing.specs.Filing.{FilesAll, FilesWhole};
 ghost use Rattle.writing.specs.Whole.{AreOf};
 
 use crate::answers::Contents;
-use rows::{Fault, Row};
+use rows::{Fault, Finding, Row};
 use std::alloc::{AllocError, Global};
-use verdicts::Finding;
 use writing::{ClosedLeaf, FindingsLeaf, RowsLeaf, begin, file};
 
 /// Whether one call files these contents, with these rows, as the bytes, into a buffer of their

@@ -2,7 +2,7 @@
 use Rattle.std.proofs.Common.{◌≡◌, ℕ, List, ◌++◌, map, Some, None, Option, refl, ap, ap₂, ◌∙◌}
 use Rattle.std.proofs.lemmas.List.{map-append}
 use Rattle.rows.specs.declared.tasks.Numbers.{Numbers}
-use Rattle.verdicts.specs.Found.{Found}
+use Rattle.rows.specs.Found.{Found}
 use Rattle.leaves.specs.declared.entries.HeadingNumbers.{HeadingNumbers}
 use Rattle.grids.specs.Cells.{IsText}
 use Rattle.grids.specs.Shown.{shown_of, shown_text}

@@ -20,22 +20,22 @@ name_at (name ∷ names) zero d none = refl
 name_at (name ∷ names) (suc i) d none = name_at names i d none
 
 -- bytes that are read as no leaf are refused so
-pub read_fault : (bytes : List ℕ) (fault : Fault) → ((a : Answer Contents) × Fits bytes a × Reads (Err fault) a) → Fits bytes (refuses (number fault.refusal) fault.at)
+pub read_fault : (bytes : List ℕ) (fault : Fault) → ((a : Answer Contents) × Fits bytes a × Reads (Err fault) a) → Fits bytes (refuses fault.refusal fault.at)
 read_fault bytes fault (gives c, fits, none) = absurd none
 read_fault bytes fault (refuses n at, fits, is) =
     subst (λ m. Fits bytes (refuses m fault.at)) (sym is.0) (subst (λ p. Fits bytes (refuses n p)) (sym is.1) fits)
 
 -- so a leaf is damaged
-damage_is : (name bytes : List ℕ) (fault : Fault) (d : Damage) → Fits bytes (refuses (number fault.refusal) fault.at) → TellsDamage name fault (trouble.Damaged d) → IsDamaged name (Some bytes) d
+damage_is : (name bytes : List ℕ) (fault : Fault) (d : Damage) → Fits bytes (refuses fault.refusal fault.at) → TellsDamage name fault (trouble.Damaged d) → IsDamaged name (Some bytes) d
 damage_is name bytes fault d fits told = record {
   named = told.0;
   bytes = bytes;
   all = refl;
-  refused = subst (λ f. Fits bytes (refuses (number f.refusal) f.at)) (sym told.1) fits;
+  refused = subst (λ f. Fits bytes (refuses f.refusal f.at)) (sym told.1) fits;
 }
 
 -- the first of two
-pub first_damaged : (a b one : List ℕ) (other : Option (List ℕ)) (fault : Fault) (t : Trouble) → Fits one (refuses (number fault.refusal) fault.at) → TellsDamage a fault t → IsTroubleOf (of_leaves a (Some one) b other) t
+pub first_damaged : (a b one : List ℕ) (other : Option (List ℕ)) (fault : Fault) (t : Trouble) → Fits one (refuses fault.refusal fault.at) → TellsDamage a fault t → IsTroubleOf (of_leaves a (Some one) b other) t
 first_damaged a b one other fault (trouble.Damaged d) fits told = inl (damage_is a one fault d fits told)
 first_damaged a b one other fault (trouble.Memory e) fits told = tt
 first_damaged a b one other fault (trouble.Table e) fits told = absurd told
@@ -49,7 +49,7 @@ first_damaged a b one other fault (trouble.Input e) fits told = absurd told
 first_damaged a b one other fault (trouble.Output e) fits told = absurd told
 
 -- or the second, where the first is a leaf
-pub second_damaged : (a b : List ℕ) (one : Option (List ℕ)) (other : List ℕ) (fault : Fault) (t : Trouble) → HeldLeaf one true → Fits other (refuses (number fault.refusal) fault.at) → TellsDamage b fault t → IsTroubleOf (of_leaves a one b (Some other)) t
+pub second_damaged : (a b : List ℕ) (one : Option (List ℕ)) (other : List ℕ) (fault : Fault) (t : Trouble) → HeldLeaf one true → Fits other (refuses fault.refusal fault.at) → TellsDamage b fault t → IsTroubleOf (of_leaves a one b (Some other)) t
 second_damaged a b one other fault (trouble.Damaged d) leaf fits told = inr (leaf, damage_is b other fault d fits told)
 second_damaged a b one other fault (trouble.Memory e) leaf fits told = tt
 second_damaged a b one other fault (trouble.Table e) leaf fits told = absurd told

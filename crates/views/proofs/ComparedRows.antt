@@ -7,8 +7,8 @@ use Rattle.std.proofs.lemmas.List.{map-append}
 use Rattle.rows.specs.declared.tasks.Row.{Row}
 use Rattle.rows.specs.Judging.{plain}
 use Rattle.rows.specs.Lists.{at_rank}
-use Rattle.verdicts.specs.declared.verdicts.Finding.{Finding}
-use Rattle.verdicts.specs.Found.{tells}
+use Rattle.rows.specs.declared.verdicts.Finding.{Finding}
+use Rattle.rows.specs.Found.{tells}
 use Rattle.leaves.specs.Contents.{Contents}
 use Rattle.grids.specs.Cells.{Rows}
 use Rattle.grids.specs.declared.cells.Cell.{Cell}

@@ -6,8 +6,8 @@ use Rattle.std.proofs.lemmas.List.{length-map, map-append}
 use Rattle.rows.specs.declared.tasks.Numbers.{Numbers}
 use Rattle.rows.specs.Judging.{plain}
 use Rattle.bounds.specs.Meaning.{Meaning}
-use Rattle.verdicts.specs.declared.verdicts.Finding.{Finding}
-use Rattle.verdicts.specs.Found.{Found, tells}
+use Rattle.rows.specs.declared.verdicts.Finding.{Finding}
+use Rattle.rows.specs.Found.{Found, tells}
 use Rattle.findings.proofs.Tables.{length_findings_below}
 use Rattle.filings.specs.Filings.{Filed, findings_by, exact_findings, bounded_findings}
 use Rattle.task_tables.specs.Tables.{table_names}

@@ -2,6 +2,7 @@
 use Rattle.std.proofs.Common.{◌≡◌, ℕ, ◌+◌, ◌≤◌, List, length, take, Ok, Err, Result, ap₂, ◌∙◌, arith}
 use Rattle.std.specs.Prelude.{IfOk, IsOkAnd}
 use Rattle.std.proofs.lemmas.Bool.{le-ltb}
+use Rattle.rows.specs.declared.refusals.Refusal.TheVariants.{ShortBuffer}
 use Rattle.rows.specs.declared.refusals.Fault.{Fault}
 use Rattle.rows.specs.Answers.{gives}
 use Rattle.rows.specs.Lists.{written}
@@ -27,7 +28,7 @@ put_fits c old new (Ok n) lawful size even put =
     let count : n ≡ length (encoding c) = given_is (buffer_checks (gives c) (length old)) n (length (encoding c)) put.told in
     omega (arith, count, even, leaf_fits c old lawful size)
 put_fits c old new (Err e) lawful size even put =
-    let room = passes_on _ 19 0 (gives (length (encoding c))) (le-ltb (length old) (length (encoding c)) (leaf_fits c old lawful size)) in
+    let room = passes_on _ ShortBuffer 0 (gives (length (encoding c))) (le-ltb (length old) (length (encoding c)) (leaf_fits c old lawful size)) in
     absurd (cc (put.told ∙ room))
 
 -- and its bytes stand in front

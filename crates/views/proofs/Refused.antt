@@ -77,7 +77,7 @@ rank_lacking rank held h k table f (trouble.Output e) read count told = absurd t
 rank_lacking rank held h k table f (trouble.Memory e) read count told = absurd told
 
 -- a last check that passes leaves what the others say
-last_passes : {A : Type 0} (cs : List Check) (wrong : Bool) (n at : ℕ) (y : A) → wrong ≡ false → checked (cs ++ check wrong n at ∷ []) y ≡ checked cs y
+last_passes : {A : Type 0} (cs : List Check) (wrong : Bool) (n : Refusal) (at : ℕ) (y : A) → wrong ≡ false → checked (cs ++ check wrong n at ∷ []) y ≡ checked cs y
 last_passes [] wrong n at y right = passes_on wrong n at (checked [] y) right
 last_passes (c ∷ cs) wrong n at y right = ap (λ o. refuses_at c.refusal c.at o) (last_passes cs wrong n at y right)
 

@@ -76,7 +76,7 @@ abbrev pub Adds : Bool → List ℕ → List ℕ → Show → Show → Type 0
 Adds true name bytes old new =
     (c : Contents) × Fits bytes (gives c) × GrowBy (layout_of old) (IsLeafText name c) (leaf_records name c) old new
 Adds false name bytes old new =
-    (refusal : Refusal) × (at : ℕ) × (around : List ℕ) × Fits bytes (refuses (number refusal) at)
+    (refusal : Refusal) × (at : ℕ) × (around : List ℕ) × Fits bytes (refuses refusal at)
     × GrowBy (layout_of old) (IsDamageLine name refusal at around) (damage_fields name (number refusal) (words refusal) at around ∷ []) old new
 
 -- so it is with all that a reader held

@@ -2,7 +2,7 @@
 use Rattle.std.specs.Prelude.{ℕ, ◌+◌, ◌-◌, ◌==◌, List, [], ◌∷◌, ◌++◌, Option, decimal, codes, if◌then◌else◌}
 use Rattle.std.specs.Option.{option_map, option_map_or, is_some}
 use Rattle.rows.specs.declared.tasks.Numbers.{Numbers}
-use Rattle.verdicts.specs.Found.{Found}
+use Rattle.rows.specs.Found.{Found}
 use Rattle.brackets.specs.Counting.{gap}
 use Rattle.task_tables.specs.Tasks.{four_fields}
 use Rattle.leaves.specs.declared.entries.HeadingNumbers.{HeadingNumbers}

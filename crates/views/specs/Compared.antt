@@ -4,7 +4,7 @@ use Rattle.std.specs.Option.{option_map}
 use Rattle.rows.specs.declared.tasks.Numbers.{Numbers}
 use Rattle.rows.specs.Judging.{plain}
 use Rattle.rows.specs.Lists.{at_rank}
-use Rattle.verdicts.specs.Found.{Found, tells}
+use Rattle.rows.specs.Found.{Found, tells}
 use Rattle.leaves.specs.Contents.{Contents}
 use Rattle.grids.specs.Aligned.{aligned_text}
 use Rattle.grids.specs.Cells.{Headings, Rows}

@@ -2,7 +2,7 @@
 use Rattle.std.specs.Prelude.{◌≡◌, ℕ, ◌<◌, ◌≤◌, ◌⊎◌, ◌-◌, List, [], ◌∷◌, ◌++◌, length, map, take, Some, Option, slice_get, slice_index_or}
 use Rattle.rows.specs.Answers.{Passes}
 use Rattle.rows.specs.Judging.{plain, rows_of}
-use Rattle.verdicts.specs.Found.{tells}
+use Rattle.rows.specs.Found.{tells}
 use Rattle.leaves.specs.Contents.{Contents, encoding}
 use Rattle.filings.specs.Checks.{filing_checks, frame_for}
 use Rattle.filings.specs.Filings.{Filed, filed, heading_of, exact_findings, bounded_findings, IsLeafOf}

@@ -5,8 +5,8 @@ use Rattle.rows.specs.declared.tasks.Numbers.{Numbers}
 use Rattle.rows.specs.declared.tasks.Row.{Row}
 use Rattle.rows.specs.Judging.{plain}
 use Rattle.rows.specs.Lists.{at_rank}
-use Rattle.verdicts.specs.declared.verdicts.Finding.{Finding}
-use Rattle.verdicts.specs.Found.{Found, tells}
+use Rattle.rows.specs.declared.verdicts.Finding.{Finding}
+use Rattle.rows.specs.Found.{Found, tells}
 use Rattle.leaves.specs.Contents.{Contents}
 use Rattle.leaves.specs.Headings.{heading_plain}
 use Rattle.grids.specs.Cells.{Rows}

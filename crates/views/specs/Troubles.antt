@@ -43,7 +43,7 @@ Tells frame refusal _ = ⊥
 pub record TellsFirst (frame accuracy : Option ℕ) (table : TaskTable) (t : Trouble) : Type 0 where
   pub refusal : Refusal
   pub at : ℕ
-  pub first : refuses (number refusal) at ≡ first_refusal (filing_checks frame accuracy (table_numbers table))
+  pub first : refuses refusal at ≡ first_refusal (filing_checks frame accuracy (table_numbers table))
   pub told : Tells frame refusal t
 
 -- so it is with a table that was read
@@ -65,7 +65,7 @@ pub record IsDamaged (name : List ℕ) (held : Option (List ℕ)) (d : Damage) :
   pub named : string_bytes d.name ≡ name
   pub bytes : List ℕ
   pub all : MayHold held bytes
-  pub refused : Fits bytes (refuses (number d.fault.refusal) d.fault.at)
+  pub refused : Fits bytes (refuses d.fault.refusal d.fault.at)
 
 -- what is told of bytes of a name that are refused as no leaf, where memory does not run out
 abbrev pub TellsDamage : List ℕ → Fault → Trouble → Type 0

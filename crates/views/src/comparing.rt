@@ -2,7 +2,7 @@
 ghost use Rattle.std.specs.Prelude.{◌≡◌, ◌++◌, length, map, codes, string_bytes, Some, IfOk, OnOk, IfErr, if◌then◌else◌};
 ghost use Rattle.std.specs.Option.{option_map};
 ghost use Rattle.rows.specs.Judging.{plain};
-ghost use Rattle.verdicts.specs.Found.{tells, verdict_rest};
+ghost use Rattle.rows.specs.Found.{tells, verdict_rest};
 ghost use Rattle.leaves.specs.Contents.{Contents};
 ghost use Rattle.reading.specs.Leaves.{Holds};
 ghost use Rattle.grids.specs.Shown.{shown_of};
@@ -21,10 +21,9 @@ use crate::outputs::write_out;
 use crate::troubles::Trouble;
 use grids::{Cell, Grid, aligned};
 use reading::{Leaf, read};
-use rows::{Fault, Row};
+use rows::{Fault, Finding, Row, Verdict};
 use std::alloc::{AllocError, Global};
 use std::io::{Read, Write};
-use verdicts::{Finding, Verdict};
 
 // The columns of a comparison.
 const COLUMNS: [&str; 11] = [

@@ -1,15 +1,14 @@
 // What rows and findings tell, as cells.
 ghost use Rattle.std.specs.Prelude.{◌≡◌, ◌++◌, ◌∷◌, [], map, decimal, IfOk, OnOk};
 ghost use Rattle.rows.specs.Judging.{plain};
-ghost use Rattle.verdicts.specs.Found.{tells, verdict_rest};
+ghost use Rattle.rows.specs.Found.{tells, verdict_rest};
 ghost use Rattle.grids.specs.Shown.{shown_of};
 ghost use Rattle.grids.specs.declared.cells.Cell.TheVariants.{Number};
 ghost use Rattle.views.specs.Cells.{leaf_texts, number_cells, number_or_nothing, number_text, rest_text};
 
 use grids::Cell;
-use rows::Row;
+use rows::{Finding, Row, Verdict};
 use std::alloc::{AllocError, Global};
-use verdicts::{Finding, Verdict};
 
 // A number of 32 bits.
 pub(crate) fn cell(number: u32) -> Cell

@@ -1,7 +1,7 @@
 // A table with both counts side by side, as text.
 ghost use Rattle.std.specs.Prelude.{◌≡◌, ◌==◌, ◌<◌, ◌∷◌, [], length, map, not, string_bytes, IfOk, OnOk, IfErr};
 ghost use Rattle.rows.specs.Judging.{plain};
-ghost use Rattle.verdicts.specs.Found.{tells, verdict_rest};
+ghost use Rattle.rows.specs.Found.{tells, verdict_rest};
 ghost use Rattle.grids.specs.Shown.{shown_of};
 ghost use Rattle.grid_csv.specs.Fields.{headings_of};
 ghost use Rattle.brackets.specs.Counting.{gap};
@@ -20,10 +20,9 @@ use bounds::Bound;
 use brackets::Counts;
 use filings::Filing;
 use grids::{Cell, Grid, aligned};
-use rows::Row;
+use rows::{Finding, Row, count_met};
 use std::alloc::{AllocError, Global};
 use std::io::Write;
-use verdicts::{Finding, count_met};
 
 // The columns of a table that was counted twice.
 const COLUMNS: [&str; 13] = [

@@ -2,7 +2,7 @@
 ghost use Rattle.std.specs.Prelude.{◌≡◌, ◌++◌, map, string_bytes, IfOk, OnOk};
 ghost use Rattle.rows.specs.Judging.{plain};
 ghost use Rattle.rows.specs.Refusals.{number, words};
-ghost use Rattle.verdicts.specs.Found.{tells};
+ghost use Rattle.rows.specs.Found.{tells};
 ghost use Rattle.leaves.specs.Headings.{heading_plain};
 ghost use Rattle.grid_csv.specs.Fields.{field_of};
 ghost use Rattle.views.specs.Cells.{damage_fields, heading_fields, record_fields, row_cells};
@@ -12,9 +12,8 @@ use crate::leaf_cells::{cell, first_rest, number_cell, push_row};
 use bounds::{Bound, Supplied};
 use grids::Cell;
 use leaves::Heading;
-use rows::Row;
+use rows::{Finding, Row};
 use std::alloc::{AllocError, Global};
-use verdicts::Finding;
 
 // The fields of a record, in order.
 pub(crate) const FIELDS: [&str; 17] = [

@@ -24,10 +24,9 @@ use grid_csv::to_csv;
 use grid_json::to_json;
 use grids::{Cell, Grid, aligned};
 use reading::{Leaf, read};
-use rows::Row;
+use rows::{Finding, Row};
 use std::alloc::{AllocError, Global};
 use std::io::{Read, Write};
-use verdicts::Finding;
 
 // The columns of a leaf as a person reads it.
 const COLUMNS: [&str; 8] = [

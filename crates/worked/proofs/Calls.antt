@@ -1,5 +1,6 @@
 -- A bench by the linear tail of accuracy 2 answers the worked calls as counted by hand.
 use Rattle.std.proofs.Common.{◌≡◌, List, [], ◌∷◌, refl, ap, ◌∙◌}
+use Rattle.rows.specs.declared.refusals.Refusal.TheVariants.{Overload}
 use Rattle.rows.specs.Answers.{Answer, gives, refuses}
 use Rattle.rows.specs.Judging.{plain}
 use Rattle.rows.proofs.SameRow.{row_of_plain}
@@ -53,7 +54,7 @@ b_admitted : step (linear_tail 2) with_a (Admit 2 (plain row_b)) ≡ (with_ab, g
 unfolding least count first_rest stop points
 b_admitted = rw (row_of_plain row_b, row_of_plain row_b) refl
 
-e_refused : step (linear_tail 2) with_ab (Admit 3 (plain row_e)) ≡ (with_ab, refuses 11 3)
+e_refused : step (linear_tail 2) with_ab (Admit 3 (plain row_e)) ≡ (with_ab, refuses Overload 3)
 unfolding least count first_rest stop points
 e_refused = rw (row_of_plain row_e) refl
 
@@ -69,7 +70,7 @@ unfolding least count first_rest stop points
 e_told = refl
 
 -- the answers to the calls, and the book that they come to
-pub calls_come : Comes first_book worked_calls with_be (gives done ∷ gives done ∷ gives done ∷ refuses 11 3 ∷ gives done ∷ gives done ∷ gives (row_found (plain row_e) (meets 5 1)) ∷ [])
+pub calls_come : Comes first_book worked_calls with_be (gives done ∷ gives done ∷ gives done ∷ refuses Overload 3 ∷ gives done ∷ gives done ∷ gives (row_found (plain row_e) (meets 5 1)) ∷ [])
 calls_come =
     then frame_set
     (then a_admitted

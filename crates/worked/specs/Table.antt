@@ -1,13 +1,14 @@
 -- The worked table: three rows on a frame of 12, and what is found about them and told by a bench, counted by hand.
 use Rattle.std.specs.Prelude.{◌≡◌, ℕ, ◌||◌, List, [], ◌∷◌, Some, None, ◌==◌}
 use Rattle.std.proofs.Common.{lit≤}
+use Rattle.rows.specs.declared.refusals.Refusal.TheVariants.{Overload}
 use Rattle.rows.specs.declared.tasks.Row.{Row}
 use Rattle.rows.specs.Answers.{gives, refuses}
 use Rattle.rows.specs.Counting.{steps}
 use Rattle.rows.specs.Judging.{plain}
 use Rattle.bounds.specs.Meaning.{Meaning}
 use Rattle.bounds.specs.Supplied.{exact_steps, linear_tail}
-use Rattle.verdicts.specs.Found.{Found}
+use Rattle.rows.specs.Found.{Found}
 use Rattle.findings.specs.Findings.{row_finding}
 use Rattle.findings.specs.Tables.{findings_of}
 use Rattle.brackets.specs.Bracketing.{slow_rest}
@@ -109,7 +110,7 @@ pub record Worked : Type 0 where
       ≡ gives done
       ∷ gives done
       ∷ gives done
-      ∷ refuses 11 3
+      ∷ refuses Overload 3
       ∷ gives done
       ∷ gives done
       ∷ gives (row_found (plain row_e) (meets 5 1))

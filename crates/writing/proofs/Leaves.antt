@@ -2,13 +2,15 @@
 use Rattle.std.proofs.Common.{◌≡◌, ℕ, ◌+◌, ◌≤◌, false, not, eqb, ltb, List, [], ◌∷◌, ◌++◌, map, length, get_or, min, take, sym, refl, ap, ◌∙◌, ap₂, subst, arith}
 use Rattle.std.specs.List.{All, AllPass}
 use Rattle.std.proofs.lemmas.Bool.{eq-eqb, eqb-true, le-ltb, ltb-false, not-false, not_from_true}
+use Rattle.rows.specs.declared.refusals.Refusal.{Refusal}
+use Rattle.rows.specs.declared.refusals.Refusal.TheVariants.{OffFrame, FullTable, Miscount, BadFinding, ShortBuffer}
 use Rattle.rows.specs.declared.tasks.Row.{Row}
 use Rattle.rows.specs.Answers.{gives, refuses, Check, check, checked, first_refusal}
 use Rattle.rows.specs.Counting.{is_on_frame}
 use Rattle.rows.specs.Lists.{written}
 use Rattle.rows.specs.Times.{is_frame, most_rows}
 use Rattle.rows.proofs.Checks.{first_passes, gives_any, passed_first, passes_on, places_pass, places_pass_on}
-use Rattle.verdicts.specs.declared.verdicts.Finding.{Finding}
+use Rattle.rows.specs.declared.verdicts.Finding.{Finding}
 use Rattle.leaves.specs.declared.entries.Heading.{Heading}
 use Rattle.leaves.specs.declared.entries.HeadingNumbers.{HeadingNumbers}
 use Rattle.leaves.specs.declared.entries.Entry.TheVariants.{Heading as heading, Row as row, Finding as finding, End as end}
@@ -50,9 +52,9 @@ module _ (n : HeadingNumbers) (rs : List Row) (fs : List Finding) (size : ℕ) w
       let bound = first_passes (ltb last_bound n.bound) 20 0 x _ frame.1 in
       let accuracy = first_passes (not (has_accuracy n)) 3 0 x _ bound.1 in
       let few = first_passes (ltb most_rows (length rs)) 9 (row_place most_rows) x _ accuracy.1 in
-      let on = places_pass (λ r. not (is_on_frame n.frame r)) row_place rs 8 x _ few.1 in
+      let on = places_pass (λ r. not (is_on_frame n.frame r)) row_place rs OffFrame x _ few.1 in
       let even = first_passes (not (eqb (length fs) (length rs))) 16 (finding_place (length rs) (min (length rs) (length fs))) x _ on.1 in
-      let good = places_pass is_bad_finding (finding_place (length rs)) fs 17 x _ even.1 in
+      let good = places_pass is_bad_finding (finding_place (length rs)) fs BadFinding x _ even.1 in
       let room = first_passes (ltb size (leaf_length (length rs))) 19 0 x _ good.1 in
       record {
         few = ltb-false most_rows (length rs) few.0;
@@ -63,13 +65,13 @@ module _ (n : HeadingNumbers) (rs : List Row) (fs : List Finding) (size : ℕ) w
       }
 
   -- of lawful contents nothing is left to be checked but the room
-  pub room_is_left : {A : Type 0} (c : Contents) (x : A) → AreOf n rs fs c → IsLawful c → checked (file_checks n rs fs size) x ≡ checked (check (ltb size (leaf_length (length rs))) 19 0 ∷ []) x
+  pub room_is_left : {A : Type 0} (c : Contents) (x : A) → AreOf n rs fs c → IsLawful c → checked (file_checks n rs fs size) x ≡ checked (check (ltb size (leaf_length (length rs))) ShortBuffer 0 ∷ []) x
   room_is_left c x are lawful =
       sym (passed_first (heading_checks n 0) others tt tt (sym (subst (λ m. first_refusal (heading_checks m 0) ≡ gives tt) are.heading (heading_passes c.heading 0))) x)
-      ∙ passes_on (ltb most_rows (length rs)) 9 (row_place most_rows) _ (le-ltb most_rows (length rs) (omega (arith, count, lawful.few)))
-      ∙ places_pass_on (λ r. not (is_on_frame n.frame r)) row_place rs 8 _ on
-      ∙ passes_on (not (eqb (length fs) (length rs))) 16 _ _ (not_from_true _ (eq-eqb (length fs) (length rs) (omega (arith, count, number, lawful.even))))
-      ∙ places_pass_on is_bad_finding (finding_place (length rs)) fs 17 _ good
+      ∙ passes_on (ltb most_rows (length rs)) FullTable (row_place most_rows) _ (le-ltb most_rows (length rs) (omega (arith, count, lawful.few)))
+      ∙ places_pass_on (λ r. not (is_on_frame n.frame r)) row_place rs OffFrame _ on
+      ∙ passes_on (not (eqb (length fs) (length rs))) Miscount _ _ (not_from_true _ (eq-eqb (length fs) (length rs) (omega (arith, count, number, lawful.even))))
+      ∙ places_pass_on is_bad_finding (finding_place (length rs)) fs BadFinding _ good
     where
       count : length c.rows ≡ length rs
       count = ap length are.rows
@@ -78,7 +80,7 @@ module _ (n : HeadingNumbers) (rs : List Row) (fs : List Finding) (size : ℕ) w
       number = ap length are.findings
 
       others : List Check
-      others = whole_row_checks n.frame rs ++ (whole_finding_checks (length rs) fs ++ check (ltb size (leaf_length (length rs))) 19 0 ∷ [])
+      others = whole_row_checks n.frame rs ++ (whole_finding_checks (length rs) fs ++ check (ltb size (leaf_length (length rs))) ShortBuffer 0 ∷ [])
 
       on : All (λ r. not (is_on_frame n.frame r) ≡ false) rs
       on = subst (λ xs. All (λ r. not (is_on_frame n.frame r) ≡ false) xs) are.rows (λ k d within. not_from_true (is_on_frame n.frame (get_or c.rows k d)) (ap (λ m. is_on_frame m.frame (get_or c.rows k d)) (sym are.heading) ∙ lawful.on k d within))
@@ -90,10 +92,10 @@ module _ (n : HeadingNumbers) (rs : List Row) (fs : List Finding) (size : ℕ) w
   pub passes : {A : Type 0} (c : Contents) (x : A) → AreOf n rs fs c → IsLawful c → length (encoding c) ≤ size → checked (file_checks n rs fs size) x ≡ gives x
   passes c x are lawful room =
       room_is_left c x are lawful
-      ∙ passes_on (ltb size (leaf_length (length rs))) 19 0 (gives x) (le-ltb size (leaf_length (length rs)) (omega (arith, room, encoding_length c lawful, ap (λ ss. leaf_length (length ss)) are.rows)))
+      ∙ passes_on (ltb size (leaf_length (length rs))) ShortBuffer 0 (gives x) (le-ltb size (leaf_length (length rs)) (omega (arith, room, encoding_length c lawful, ap (λ ss. leaf_length (length ss)) are.rows)))
 
   -- so they are never refused
-  pub never_refused : {A : Type 0} (c : Contents) (number at : ℕ) (x : A) → AreOf n rs fs c → IsLawful c → length (encoding c) ≤ size → refuses number at ≡ checked (file_checks n rs fs size) x → ⊥
+  pub never_refused : {A : Type 0} (c : Contents) (number : Refusal) (at : ℕ) (x : A) → AreOf n rs fs c → IsLawful c → length (encoding c) ≤ size → refuses number at ≡ checked (file_checks n rs fs size) x → ⊥
   never_refused c number at x are lawful room refused = let given = passes c x are lawful room in cc
 
   -- and whatever else was to be given, the length of the leaf would have been

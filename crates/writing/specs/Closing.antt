@@ -8,4 +8,4 @@ use Rattle.writing.specs.declared.closed.Unclosed.{Unclosed}
 -- that there is no refusal, or the refusal of the fault that the leaf is given back with
 abbrev pub closing : Result ClosedLeaf Unclosed → Answer (Unit {0})
 closing (Ok leaf) = gives tt
-closing (Err u) = refuses (number u.fault.refusal) u.fault.at
+closing (Err u) = refuses u.fault.refusal u.fault.at

@@ -1,10 +1,11 @@
 -- A whole leaf filed by one call.
 use Rattle.std.specs.Prelude.{◌≡◌, ℕ, not, List, [], ◌∷◌, ◌++◌, length, min, ◌==◌, nat_lt}
+use Rattle.rows.specs.declared.refusals.Refusal.TheVariants.{OffFrame, FullTable, Miscount, BadFinding, ShortBuffer}
 use Rattle.rows.specs.declared.tasks.Row.{Row}
 use Rattle.rows.specs.Answers.{Check, check, check_places}
 use Rattle.rows.specs.Counting.{is_on_frame}
 use Rattle.rows.specs.Times.{most_rows}
-use Rattle.verdicts.specs.declared.verdicts.Finding.{Finding}
+use Rattle.rows.specs.declared.verdicts.Finding.{Finding}
 use Rattle.leaves.specs.declared.entries.HeadingNumbers.{HeadingNumbers}
 use Rattle.leaves.specs.Contents.{Contents}
 use Rattle.leaves.specs.Entries.{row_place, finding_place, leaf_length}
@@ -21,16 +22,16 @@ pub record AreOf (n : HeadingNumbers) (rs : List Row) (fs : List Finding) (c : C
 -- first row that is
 abbrev pub whole_row_checks : ℕ → List Row → List Check
 whole_row_checks h rows =
-    check (nat_lt most_rows (length rows)) 9 (row_place most_rows)
-    ∷ check_places (λ r. not (is_on_frame h r)) 8 row_place rows
+    check (nat_lt most_rows (length rows)) FullTable (row_place most_rows)
+    ∷ check_places (λ r. not (is_on_frame h r)) OffFrame row_place rows
     ∷ []
 
 -- what is checked of the findings about n rows: miscount, told at the first finding too many or at the end that comes
 -- too early; then bad finding, told at the first that is
 abbrev pub whole_finding_checks : ℕ → List Finding → List Check
 whole_finding_checks n findings =
-    check (not (length findings == n)) 16 (finding_place n (min n (length findings)))
-    ∷ check_places is_bad_finding 17 (finding_place n) findings
+    check (not (length findings == n)) Miscount (finding_place n (min n (length findings)))
+    ∷ check_places is_bad_finding BadFinding (finding_place n) findings
     ∷ []
 
 -- what is checked of a whole leaf for a buffer of so many bytes: its heading, its rows, its findings, and room for all
@@ -40,4 +41,4 @@ file_checks n rows findings size =
     heading_checks n 0
     ++ (whole_row_checks n.frame rows
     ++ (whole_finding_checks (length rows) findings
-    ++ check (nat_lt size (leaf_length (length rows))) 19 0 ∷ []))
+    ++ check (nat_lt size (leaf_length (length rows))) ShortBuffer 0 ∷ []))

@@ -1,15 +1,14 @@
 // A leaf whose rows are filed and that takes findings.
 ghost use Rattle.std.specs.Prelude.{◌≡◌};
 ghost use Rattle.std.specs.Option.{unwrap_or};
-ghost use Rattle.verdicts.specs.Found.{verdict_rest};
+ghost use Rattle.rows.specs.Found.{verdict_rest};
 
 use crate::bytes::{check_room, put_numbers};
 use crate::closed::{ClosedLeaf, Unclosed};
 use leaves::{END_SIZE, FINDING_SIZE, Heading, judge_finding};
 use reading::Phase;
-use rows::{Fault, Refusal};
+use rows::{Fault, Finding, Refusal, Verdict};
 use std::marker::Model;
-use verdicts::{Finding, Verdict};
 
 /// A leaf that takes findings: its heading, its rows and so many findings are filed. It can be
 /// neither copied nor made by hand.

@@ -19,8 +19,7 @@ use crate::taking_findings::FindingsLeaf;
 use crate::taking_rows::RowsLeaf;
 use leaves::{Heading, HeadingNumbers, judge_finding};
 use reading::Phase;
-use rows::{Fault, MOST_ROWS, Refusal, Row};
-use verdicts::Finding;
+use rows::{Fault, Finding, MOST_ROWS, Refusal, Row};
 
 /// Files a whole leaf at the first byte of a buffer: its heading, its rows and as many findings, and
 /// writes no other byte. Answers the length of the leaf in bytes (docs/FORMAT.md, Writing).

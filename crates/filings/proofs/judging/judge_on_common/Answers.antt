@@ -15,4 +15,4 @@ returns-in_err-check_on-in-Some-clause-answered c =
     let fault = c.in_err-check_on-in-Some.field-0.0 in
     let least = c.in-Some.ensures.least in
     let refused = c.in_err-check_on-in-Some.ensures ∙ surveyed h table tt least.frame ∙ framed_alike h table tt least.common (sym c.in-Some.ensures.answered) in
-    rw (p.1, p.2) (refuses_any (table_checks None table) (number fault.refusal) fault.at tt refused (frame_for None table))
+    rw (p.1, p.2) (refuses_any (table_checks None table) fault.refusal fault.at tt refused (frame_for None table))

@@ -20,8 +20,8 @@ returns-in_err-frame-clause-answered c =
     let numbers = c.args.table.now in
     let p = err_from_is_err_and c.from_residual-in_err-frame.result c.from_residual-in_err-frame.ensures.1 in
     let fault = c.in_err-frame.field-0.0 in
-    let refused = table_refused c.args.frame c.args.accuracy numbers c.in_ok-check_frame.ensures _ _ c.in_ok-bound.ensures (number fault.refusal) fault.at _ c.in_err-frame.ensures.answered (sheet_length numbers) in
-    rw (p.1, p.2) (refused_first (filing_checks c.args.frame c.args.accuracy numbers) (room_checks numbers (length c.args.buffer.now)) (number fault.refusal) fault.at (sheet_length numbers) refused (sheet_length numbers))
+    let refused = table_refused c.args.frame c.args.accuracy numbers c.in_ok-check_frame.ensures _ _ c.in_ok-bound.ensures fault.refusal fault.at _ c.in_err-frame.ensures.answered (sheet_length numbers) in
+    rw (p.1, p.2) (refused_first (filing_checks c.args.frame c.args.accuracy numbers) (room_checks numbers (length c.args.buffer.now)) fault.refusal fault.at (sheet_length numbers) refused (sheet_length numbers))
 
 pub put_rows-requires-clause-judged : goal.put_rows-requires-clause-judged
 put_rows-requires-clause-judged c =

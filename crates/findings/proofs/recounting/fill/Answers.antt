@@ -1,6 +1,6 @@
 use Rattle.std.proofs.Common.{◌≡◌, ◌-◌, ◌<◌, [], map, length, take, drop, ◌∙◌, rules, arith}
 use Rattle.std.proofs.lemmas.List.{length-drop, length-map, map-set}
-use Rattle.verdicts.specs.Found.{tells}
+use Rattle.rows.specs.Found.{tells}
 use Rattle.findings.specs.Findings.{row_finding}
 use Rattle.findings.specs.Tables.{findings_of}
 use Rattle.findings.proofs.Tables.{length_findings_below, finding_at, put_more, put_all, stays_more, outside_end}

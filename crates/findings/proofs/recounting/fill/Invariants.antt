@@ -1,7 +1,7 @@
 use Rattle.std.proofs.Common.{◌≡◌, ◌-◌, ◌≤◌, map, length, drop}
 use Rattle.std.proofs.Math.Seq.{paste}
 use Rattle.rows.specs.Lists.{StaysOutside}
-use Rattle.verdicts.specs.Found.{tells}
+use Rattle.rows.specs.Found.{tells}
 use Rattle.findings.specs.Tables.{findings_of}
 use Rattle.findings.proofs.recounting.fill.Given as goal
 

@@ -19,10 +19,10 @@ returns-in_err-next_entry c =
     let bytes = c.args.bytes.now in
     let fault = c.in_err-next_entry.field-0.0 in
     let p = err_from_is_err_and c.from_residual.result c.from_residual.ensures.1 in
-    let refused = read_refused bytes c.loop.reader c.loop.invariant (number fault.refusal) fault.at c.in_err-next_entry.ensures.answered in
+    let refused = read_refused bytes c.loop.reader c.loop.invariant fault.refusal fault.at c.in_err-next_entry.ensures.answered in
     rw (p.1, p.2) (record {
-      fits = (refuses (number fault.refusal) fault.at, refused, (refl, refl));
-      only = said_of_each _ bytes (refuses (number fault.refusal) fault.at) refused (refl, refl);
+      fits = (refuses fault.refusal fault.at, refused, (refl, refl));
+      only = said_of_each _ bytes (refuses fault.refusal fault.at) refused (refl, refl);
       once = fits_once;
       parts = tt;
     })

@@ -28,7 +28,7 @@ pub returns-in-Ok-clause-fits : goal.returns-in-Ok-clause-fits
 returns-in-Ok-clause-fits c = (gives c.file_survey.ensures.0, (c.in-Ok.sheet, c.in-Ok.ensures.fits, c.file_survey.ensures.1))
 
 pub returns-in-Err-clause-fits : goal.returns-in-Err-clause-fits
-returns-in-Err-clause-fits c = (refuses (number c.in-Err.fault.refusal) c.in-Err.fault.at, c.in-Err.ensures.fits)
+returns-in-Err-clause-fits c = (refuses c.in-Err.fault.refusal c.in-Err.fault.at, c.in-Err.ensures.fits)
 
 pub returns-in-Ok-clause-put : goal.returns-in-Ok-clause-put
 returns-in-Ok-clause-put c a also =
@@ -37,7 +37,7 @@ returns-in-Ok-clause-put c a also =
 
 pub returns-in-Err-clause-put : goal.returns-in-Err-clause-put
 returns-in-Err-clause-put c a also =
-    let refused = refuses (number c.in-Err.fault.refusal) c.in-Err.fault.at in
+    let refused = refuses c.in-Err.fault.refusal c.in-Err.fault.at in
     subst (λ b. IsPut b c.args.buffer.now c.put_refusal.new.buffer c.put_refusal.result) (answers_once c.args.bytes.now refused a c.in-Err.ensures.fits also) c.put_refusal.ensures
 
 pub returns-in-Ok-clause-room : goal.returns-in-Ok-clause-room

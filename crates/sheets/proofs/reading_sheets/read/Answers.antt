@@ -18,7 +18,7 @@ pub returns-in_err-row-clause-fits : goal.returns-in_err-row-clause-fits
 returns-in_err-row-clause-fits c =
     let fault = c.in_err-row.field-0.0 in
     let p = err_from_is_err_and c.from_residual-in_err-row.result c.from_residual-in_err-row.ensures.1 in
-    rw (p.1, p.2) (read_refused c.args.bytes.now c.loop-row.sheet c.loop-row.reader c.loop-row.invariant (number fault.refusal) fault.at c.in_err-row.ensures.answered)
+    rw (p.1, p.2) (read_refused c.args.bytes.now c.loop-row.sheet c.loop-row.reader c.loop-row.invariant fault.refusal fault.at c.in_err-row.ensures.answered)
 
 pub loop-row-preserved : goal.loop-row-preserved
 loop-row-preserved c =

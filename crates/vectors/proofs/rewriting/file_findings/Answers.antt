@@ -1,4 +1,4 @@
-use Rattle.verdicts.specs.declared.verdicts.Verdict.TheVariants.{Meets}
+use Rattle.rows.specs.declared.verdicts.Verdict.TheVariants.{Meets}
 use Rattle.leaves.specs.declared.entries.Entry.TheVariants.{Finding as finding}
 use Rattle.writing.specs.Filing.{none}
 use Rattle.writing.proofs.Filed.{one_more_filed}

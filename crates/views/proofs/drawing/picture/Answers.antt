@@ -1,7 +1,7 @@
 use Rattle.std.proofs.Common.{◌≡◌, suc, ◌-◌, ◌<◌, ◌≤◌, ◌++◌, ◌∷◌, [], length, take, refl, sym, ap, ◌∙◌, arith}
 use Rattle.std.specs.Prelude.{slice_get}
 use Rattle.bounds.specs.Supplied.{exact_steps, linear_tail}
-use Rattle.verdicts.specs.Found.{tells}
+use Rattle.rows.specs.Found.{tells}
 use Rattle.views.proofs.Counts.{at_place, findings_even, take_one}
 use Rattle.views.proofs.drawing.picture.Goals as goal
 

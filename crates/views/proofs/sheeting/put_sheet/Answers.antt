@@ -26,10 +26,10 @@ pub returns-in-Err-clause-refused : goal.returns-in-Err-clause-refused
 returns-in-Err-clause-refused c =
     let e = c.in-Err.fault in
     let size : length c.args.buffer.now ≡ 551 = search rules in
-    let first = sheet_refused c.args.frame c.args.accuracy c.numbers.result.now (length c.args.buffer.now) (number e.refusal) e.at _ size c.numbers.ensures.few c.in-Err.ensures.answered in
+    let first = sheet_refused c.args.frame c.args.accuracy c.numbers.result.now (length c.args.buffer.now) e.refusal e.at _ size c.numbers.ensures.few c.in-Err.ensures.answered in
     record {
       refusal = e.refusal;
       at = e.at;
-      first = subst (λ ns. refuses (number e.refusal) e.at ≡ first_refusal (filing_checks c.args.frame c.args.accuracy ns)) c.numbers.ensures.numbers first;
+      first = subst (λ ns. refuses e.refusal e.at ≡ first_refusal (filing_checks c.args.frame c.args.accuracy ns)) c.numbers.ensures.numbers first;
       told = c.trouble.ensures;
     }

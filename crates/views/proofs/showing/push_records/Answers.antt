@@ -1,6 +1,6 @@
 use Rattle.std.proofs.Common.{rules, map, ◌+◌, ◌<◌, length, ap, ◌∙◌, arith}
 use Rattle.rows.specs.Judging.{plain}
-use Rattle.verdicts.specs.Found.{tells}
+use Rattle.rows.specs.Found.{tells}
 use Rattle.leaves.specs.Headings.{heading_plain}
 use Rattle.grid_csv.specs.Fields.{field_of}
 use Rattle.views.specs.Ranked.{field_rows}

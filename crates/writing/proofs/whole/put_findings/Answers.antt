@@ -1,5 +1,5 @@
 use Rattle.std.proofs.Common.{arith}
-use Rattle.verdicts.specs.declared.verdicts.Verdict.TheVariants.{Meets}
+use Rattle.rows.specs.declared.verdicts.Verdict.TheVariants.{Meets}
 use Rattle.leaves.specs.declared.entries.Entry.TheVariants.{Finding as finding}
 use Rattle.writing.specs.Filing.{none}
 use Rattle.writing.proofs.Filed.{findings_before, one_more_filed}

@@ -2,7 +2,7 @@ use Rattle.std.proofs.Common.{sym, ap, ◌∙◌, subst, arith}
 use Rattle.std.specs.List.{AllPass}
 use Rattle.findings.specs.Tables.{findings_of}
 use Rattle.admission.specs.Benches.{table_rows}
-use Rattle.verdicts.specs.Found.{is_met}
+use Rattle.rows.specs.Found.{is_met}
 use Rattle.admission.specs.Books.{book}
 use Rattle.admission.proofs.Called.{kept_sound, many_rows, without_is}
 use Rattle.admission.proofs.Steps.{without_sound}

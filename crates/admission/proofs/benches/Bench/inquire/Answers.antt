@@ -1,8 +1,8 @@
 use Rattle.std.proofs.Common.{◌-◌, get_or, refl, subst, arith}
 use Rattle.rows.specs.Judging.{plain}
-use Rattle.verdicts.specs.declared.verdicts.Finding.{Finding}
-use Rattle.verdicts.specs.declared.verdicts.Verdict.TheVariants.{Meets}
-use Rattle.verdicts.specs.Found.{tells}
+use Rattle.rows.specs.declared.verdicts.Finding.{Finding}
+use Rattle.rows.specs.declared.verdicts.Verdict.TheVariants.{Meets}
+use Rattle.rows.specs.Found.{tells}
 use Rattle.admission.specs.declared.calls.Call.TheVariants.{Inquire}
 use Rattle.admission.specs.declared.calls.Reply.TheVariants.{Found}
 use Rattle.admission.specs.Benches.{Does, table_rows, table_findings}

@@ -1,6 +1,6 @@
 use Rattle.std.proofs.Common.{◌-◌, take, arith}
 use Rattle.std.proofs.lemmas.List.{length-take-le}
-use Rattle.verdicts.specs.Found.{tells}
+use Rattle.rows.specs.Found.{tells}
 use Rattle.findings.specs.Asking.{question_checks}
 use Rattle.findings.specs.Findings.{row_finding}
 use Rattle.admission.proofs.Asking.{question_passes}

@@ -1,6 +1,6 @@
 use Rattle.std.proofs.Common.{map, Some, None, ap, ◌∙◌}
 use Rattle.leaves.specs.declared.entries.Entry.TheVariants.{Finding as entry}
-use Rattle.verdicts.specs.Found.{tells}
+use Rattle.rows.specs.Found.{tells}
 use Rattle.reading.proofs.Ranks.{findings_of_size}
 use Rattle.reading.proofs.Told.{finding_told}
 use Rattle.reading.proofs.held.Leaf.finding.Goals as goal

@@ -15,4 +15,4 @@ returns-in_err-recount-clause-answered c =
     let fault = c.in_err-recount.field-0.0 in
     let here = table_checks c.heading-heading.result.frame c.rows.result.now places in
     let same = ap₂ (λ g rs. table_checks g.frame rs places) c.heading-heading.ensures.answered c.rows.ensures in
-    rw (p.1, p.2) (refuses_any here (number fault.refusal) fault.at tt c.in_err-recount.ensures.answered (length t.rows) ∙ ap (λ cs. checked cs (length t.rows)) same ∙ list_is_left t places (length t.rows) c.heading-heading.ensures.lawful)
+    rw (p.1, p.2) (refuses_any here fault.refusal fault.at tt c.in_err-recount.ensures.answered (length t.rows) ∙ ap (λ cs. checked cs (length t.rows)) same ∙ list_is_left t places (length t.rows) c.heading-heading.ensures.lawful)

@@ -3,7 +3,7 @@ use Rattle.std.specs.Prelude.{slice_get}
 use Rattle.std.proofs.lemmas.Result.{IfOk-weaker}
 use Rattle.rows.specs.Judging.{plain}
 use Rattle.bounds.specs.Supplied.{exact_steps, linear_tail}
-use Rattle.verdicts.specs.Found.{tells}
+use Rattle.rows.specs.Found.{tells}
 use Rattle.task_tables.specs.Tables.{table_names}
 use Rattle.views.proofs.Counts.{at_place, findings_even, told_is}
 use Rattle.views.proofs.counted.Counted.row_at.Goals as goal

@@ -1,9 +1,9 @@
 // What is found about a row.
 ghost use Rattle.std.specs.Prelude.{◌≡◌, ◌+◌, count_by};
 ghost use Rattle.std.specs.Option.{option_map};
-ghost use Rattle.verdicts.specs.Found.{is_met, tells, verdict_rest};
+ghost use Rattle.rows.specs.Found.{is_met, tells, verdict_rest};
 
-use rows::Row;
+use crate::tasks::Row;
 
 /// Whether a row meets its deadline: it does, with its first rest in ticks, the least instant by
 /// which all that is demanded up to it is served; or it misses (docs/RULES.md, Rests).

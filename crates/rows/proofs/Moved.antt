@@ -1,4 +1,4 @@
--- An element put into a list, and lists whose front is counted anew.
+-- An element put into a list or taken out, and lists that are written over.
 use Rattle.std.proofs.Common.{◌≡◌, ℕ, suc, ◌+◌, ◌-◌, ◌<◌, ◌≤◌, List, [], ◌∷◌, ◌++◌, length, take, drop, set, refl, sym, ap, ◌∙◌, ap₂, arith}
 use Rattle.std.specs.List.{insert, remove, copy_within}
 use Rattle.std.proofs.lemmas.List.{append_assoc, drop-take, drop_at, length-append, length-drop, length-take-le, set_split, take-append-drop, take-append-le, take-take, take_all, take_at}
@@ -55,44 +55,14 @@ length_insert xs k x within = omega (arith, length-append (take k xs) (x ∷ dro
 pub length_remove : {X : Type 0} (xs : List X) (k : ℕ) → k < length xs → length (remove xs k) + 1 ≡ length xs
 length_remove xs k within = omega (arith, length-append (take k xs) (drop (suc k) xs), length-take-le k xs (omega arith), length-drop (suc k) xs)
 
--- an element put into the first elements of a list, with one place more
-module _ {X : Type 0} (all put : List X) (n k : ℕ) (x : X) (room : n < length all) (within : k ≤ n)
-    (is : put ≡ insert (take (length (take (n + 1) all) - 1) (take (n + 1) all)) k x) where
-  -- it is put into those, and what the place held is dropped
-  put_is : put ≡ insert (take n all) k x
-  put_is =
-      let size = length-take-le (n + 1) all (omega arith) in
-      let one : length (take (n + 1) all) - 1 ≡ n = omega arith in
-      is ∙ ap (λ xs. insert xs k x) (ap (λ l. take l (take (n + 1) all)) one ∙ take-take n (n + 1) all (omega arith))
-
-  put_length : length put ≡ n + 1
-  put_length = ap length put_is ∙ length_insert (take n all) k x (omega (arith, length-take-le n all (omega arith))) ∙ ap (λ l. l + 1) (length-take-le n all (omega arith))
-
-  -- so it stands in front of the list, and the list is as long as it was
-  pub put_front : take (n + 1) (put ++ drop (n + 1) all) ≡ insert (take n all) k x
-  put_front = take_at put (drop (n + 1) all) (n + 1) put_length ∙ put_is
-
-  pub put_whole : length (put ++ drop (n + 1) all) ≡ length all
-  put_whole = omega (arith, length-append put (drop (n + 1) all), put_length, length-drop (n + 1) all)
-
--- an element taken out of the first elements of a list
-module _ {X : Type 0} (all out : List X) (n k : ℕ) (room : n ≤ length all) (within : k < n)
-    (is : out ≡ remove (take n all) k ++ drop (length (take n all) - 1) (take n all)) where
-  out_length : length (remove (take n all) k) ≡ n - 1
-  out_length = omega (arith, length_remove (take n all) k (omega (arith, length-take-le n all room)), length-take-le n all room)
-
-  -- those that are left stand in front of the list, and the list is as long as it was
-  pub out_front : take (n - 1) (out ++ drop n all) ≡ remove (take n all) k
-  out_front =
-      let rest = drop (length (take n all) - 1) (take n all) in
-      ap (λ xs. take (n - 1) (xs ++ drop n all)) is ∙ ap (take (n - 1)) (append_assoc (remove (take n all) k) rest (drop n all))
-      ∙ take_at (remove (take n all) k) (rest ++ drop n all) (n - 1) out_length
-
-  pub out_whole : length (out ++ drop n all) ≡ length all
-  out_whole =
-      omega (arith, length-append out (drop n all), ap length is, length-append (remove (take n all) k) (drop (length (take n all) - 1) (take n all)), out_length, length-take-le n all room, length-drop (length (take n all) - 1) (take n all), length-drop n all)
-
 -- a list that is written over is as long as it was
 pub length_written : {X : Type 0} (old new : List X) (from : ℕ) → from + length new ≤ length old → length (written old from new) ≡ length old
 length_written old new from within =
     omega (arith, length-append (take from old) (new ++ drop (from + length new) old), length-append new (drop (from + length new) old), length-take-le from old (omega arith), length-drop (from + length new) old)
+
+-- an element taken out of a list whose last place then goes
+pub out_cut : {X : Type 0} (rows out more : List X) (k n m : ℕ) → n + 1 ≡ length rows → k ≤ n → n ≤ m → out ≡ remove rows k ++ drop (length rows - 1) rows → take n (take m (out ++ more)) ≡ remove rows k
+out_cut rows out more k n m fewer within room is =
+    let rest = drop (length rows - 1) rows in
+    take-take n m (out ++ more) room ∙ ap (λ xs. take n (xs ++ more)) is ∙ ap (take n) (append_assoc (remove rows k) rest more)
+    ∙ take_at (remove rows k) (rest ++ more) n (omega (arith, length_remove rows k (omega arith)))

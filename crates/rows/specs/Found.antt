@@ -1,8 +1,8 @@
 -- A finding in plain numbers.
 use Rattle.std.specs.Prelude.{ℕ, Bool, not, Some, None, Option, is_some}
-use Rattle.verdicts.specs.declared.verdicts.Finding.{Finding}
-use Rattle.verdicts.specs.declared.verdicts.Verdict.{Verdict}
-use Rattle.verdicts.specs.declared.verdicts.Verdict.TheVariants.{Meets, Misses}
+use Rattle.rows.specs.declared.verdicts.Finding.{Finding}
+use Rattle.rows.specs.declared.verdicts.Verdict.{Verdict}
+use Rattle.rows.specs.declared.verdicts.Verdict.TheVariants.{Meets, Misses}
 
 -- what is found, in numbers: the first rest, if there is one, and the points tested
 pub record Found : Type 0 where

@@ -1,9 +1,9 @@
 -- Findings are known by what they tell.
 use Rattle.std.proofs.Common.{◌≡◌, List, [], ◌∷◌, map, drop, get_or, refl, ap, ap₂}
-use Rattle.verdicts.specs.declared.verdicts.Finding.{Finding}
-use Rattle.verdicts.specs.declared.verdicts.Verdict.{Verdict}
-use Rattle.verdicts.specs.declared.verdicts.Verdict.TheVariants.{Meets, Misses}
-use Rattle.verdicts.specs.Found.{tells, verdict_rest}
+use Rattle.rows.specs.declared.verdicts.Finding.{Finding}
+use Rattle.rows.specs.declared.verdicts.Verdict.{Verdict}
+use Rattle.rows.specs.declared.verdicts.Verdict.TheVariants.{Meets, Misses}
+use Rattle.rows.specs.Found.{tells, verdict_rest}
 
 -- a verdict is known by the first rest that it carries
 same_verdict : (v w : Verdict) → verdict_rest v ≡ verdict_rest w → v ≡ w
