@@ -3,7 +3,7 @@ use Rattle.std.proofs.Common.{◌≡◌, ℕ, zero, suc, ◌+◌, ◌-◌, ◌<�
 use Rattle.std.specs.List.{All, AllPass, insert, remove}
 use Rattle.std.specs.Option.{option_map, unwrap_or}
 use Rattle.std.proofs.lemmas.Bool.{and_from, le-leb, lt-leb, not-false}
-use Rattle.std.proofs.lemmas.List.{get_or-map, get_or-take, length-take-le}
+use Rattle.std.proofs.lemmas.List.{get_or-map, length-map}
 use Rattle.std.proofs.lemmas.List.Elements.{All-weaker}
 use Rattle.rows.specs.declared.refusals.Fault.{Fault}
 use Rattle.rows.specs.declared.refusals.Refusal.TheVariants.{Overload, FullTable, NoRank}
@@ -12,7 +12,6 @@ use Rattle.rows.specs.declared.tasks.Row.{Row}
 use Rattle.rows.specs.Answers.{check, check_each, checked, gives, refuses, refuses_at}
 use Rattle.rows.specs.Judging.{plain, rows_of, frame_flaws, flaw_checks}
 use Rattle.rows.specs.Lists.{at_rank, first_of}
-use Rattle.rows.specs.Refusals.{number}
 use Rattle.rows.specs.Times.{most_rows}
 use Rattle.rows.proofs.Checks.{given_is, passed_first, passes_on, places_pass}
 use Rattle.rows.proofs.SameRow.{rows_of_plain}
@@ -20,32 +19,35 @@ use Rattle.bounds.specs.Meaning.{Meaning}
 use Rattle.rows.specs.declared.verdicts.Finding.{Finding}
 use Rattle.rows.specs.Found.{Found, tells, is_met, is_miss}
 use Rattle.findings.specs.Findings.{row_finding}
-use Rattle.findings.proofs.Tables.{finding_below_at}
+use Rattle.findings.proofs.Tables.{finding_below_at, length_findings_below}
 use Rattle.findings.specs.Tables.{findings_of}
 use Rattle.admission.specs.declared.calls.Call.{Call}
 use Rattle.admission.specs.declared.calls.Call.TheVariants.{Admit, Inquire}
 use Rattle.admission.specs.declared.calls.Reply.{Reply}
 use Rattle.admission.specs.declared.calls.Reply.TheVariants.{Done, Refused}
-use Rattle.admission.specs.declared.keeping.Table.{Table}
-use Rattle.admission.specs.Benches.{Held, bench, Does, IsCounted, Keeps, table_rows, table_findings}
-use Rattle.admission.specs.Books.{Book, book, checks_of, is_rank, once_done, told, with_newcomer, without}
+use Rattle.rows.specs.Books.{Book, IsJudged, book}
+use Rattle.rows.specs.Ranks.{is_rank}
+use Rattle.findings.proofs.OnFrame.{judged_stand}
+use Rattle.admission.specs.declared.keeping.Kept.{Kept}
+use Rattle.admission.specs.Benches.{Held, bench, Does, IsCounted, Keeps, kept_findings}
+use Rattle.admission.specs.Books.{checks_of, once_done, overload_check, told, with_newcomer, without}
 use Rattle.admission.specs.Replies.{Told, answer_of, done, row_found}
 use Rattle.admission.proofs.Steps.{Sound, step_given, step_refused}
 
--- what is seen of a bench by a bound, at a frame, with a table
-abbrev pub seen : {B : Type 0} → B → ℕ → Table → Held B
-seen bound h t = record { bound = bound; book = book h (table_rows t); findings = table_findings t }
+-- what is seen of a bench by a bound, with what it keeps
+abbrev pub seen : {B : Type 0} → B → Kept → Held B
+seen bound k = record { bound = bound; book = k.table; findings = kept_findings k }
 
 -- a bench that keeps what every bench keeps is that of its bound and book
-pub kept_is : {B : Type 0} (m : Meaning) (bound : B) (h : ℕ) (t : Table) → Keeps m h t → seen bound h t ≡ bench m bound (book h (table_rows t))
-kept_is m bound h t keeps = ap (λ fs. record { bound = bound; book = book h (table_rows t); findings = fs }) keeps.counted.counted
+pub kept_is : {B : Type 0} (m : Meaning) (bound : B) (k : Kept) → Keeps m k → seen bound k ≡ bench m bound k.table
+kept_is m bound k keeps = ap (λ fs. record { bound = bound; book = k.table; findings = fs }) keeps.counted
 
--- and its book is sound
-pub kept_sound : (m : Meaning) (h : ℕ) (t : Table) → Keeps m h t → Sound m (book h (table_rows t))
-kept_sound m h t keeps = record {
-  stand = keeps.counted.stand;
-  few = omega (arith, length-take-le t.count t.rows (omega (arith, keeps.counted.few, keeps.counted.places)), keeps.counted.few);
-  meet = subst (AllPass is_met) keeps.counted.counted keeps.meet;
+-- and its book is sound, where its table is judged
+pub kept_sound : (m : Meaning) (k : Kept) → IsJudged k.table → Keeps m k → Sound m k.table
+kept_sound m k judged keeps = record {
+  stand = judged_stand k.table judged;
+  few = judged.few;
+  meet = subst (AllPass is_met) keeps.counted keeps.meet;
 }
 
 -- a call that refuses as its checks do leaves the bench, and does what the book says
@@ -68,7 +70,7 @@ is_within last rank low high = ap not (and_from (leb 1 rank) (leb rank last) (le
 
 -- where no place has it, no element has
 pub nowhere : {X : Type 0} (wrong : X → Bool) (xs : List X) → position wrong xs ≡ None → All (λ x. wrong x ≡ false) xs
-nowhere wrong xs none = (places_pass {A = Unit {0}} wrong (λ i. i) xs 0 tt (gives tt) (ap (λ o. refuses_at {A = Unit {0}} 0 (option_map (λ i. i) o) (gives tt)) (sym none))).0
+nowhere wrong xs none = (places_pass {A = Unit {0}} wrong (λ i. i) xs Overload tt (gives tt) (ap (λ o. refuses_at {A = Unit {0}} Overload (option_map (λ i. i) o) (gives tt)) (sym none))).0
 
 -- findings none of which is a miss are all met
 pub all_meet : (fs : List Found) → position is_miss fs ≡ None → AllPass is_met fs
@@ -84,9 +86,9 @@ module _ (m : Meaning) (b : Book) (rank : ℕ) (n : Numbers) (r : Row) (judged :
 
   module _ (room : length b.rows + 1 ≤ most_rows) (low : 1 ≤ rank) (high : rank ≤ length b.rows + 1) where
     -- the answer is that of the last check
-    last_check : (y : Told) → checked (checks_of m b (Admit rank n)) y ≡ checked (check_each is_miss Overload (findings_of m b.frame (with_newcomer rank n b.rows)) ∷ []) y
+    last_check : (y : Told) → checked (checks_of m b (Admit rank n)) y ≡ checked (overload_check m b rank n ∷ []) y
     last_check y =
-        let last = check_each is_miss Overload (findings_of m b.frame (with_newcomer rank n b.rows)) in
+        let last = overload_check m b rank n in
         sym (passed_first (flaw_checks (frame_flaws b.frame) n 0) (check (leb most_rows (length b.rows)) FullTable 0 ∷ check (not (is_rank (length b.rows + 1) rank)) NoRank 0 ∷ last ∷ []) (plain r) n judged y)
         ∙ passes_on (leb most_rows (length b.rows)) FullTable 0 (checked (check (not (is_rank (length b.rows + 1) rank)) NoRank 0 ∷ last ∷ []) y) (lt-leb most_rows (length b.rows) (omega (arith, room)))
         ∙ passes_on (not (is_rank (length b.rows + 1) rank)) NoRank 0 (checked (last ∷ []) y) (is_within (length b.rows + 1) rank low high)
@@ -106,10 +108,6 @@ module _ (m : Meaning) (b : Book) (rank : ℕ) (n : Numbers) (r : Row) (judged :
 pub without_is : (rank : ℕ) (rows : List Row) → 1 ≤ rank → remove rows (rank - 1) ≡ without rank rows
 without_is rank rows low = let up : suc (rank - 1) ≡ rank = omega arith in ap (λ k. take (rank - 1) rows ++ drop k rows) up
 
--- as many rows stand in a table as are counted
-pub many_rows : (m : Meaning) (h : ℕ) (t : Table) → Keeps m h t → length (table_rows t) ≡ t.count
-many_rows m h t keeps = length-take-le t.count t.rows (omega (arith, keeps.counted.few, keeps.counted.places))
-
 -- the element at a rank is that at the place before it
 at_place : {X : Type 0} (xs : List X) (i : ℕ) (d : X) → i < length xs → first_of (drop i xs) ≡ Some (get_or xs i d)
 at_place [] i d within = absurd (omega arith)
@@ -120,52 +118,50 @@ rank_place : {X : Type 0} (xs : List X) (rank : ℕ) (d : X) → 1 ≤ rank → 
 rank_place xs rank d low high = let up : suc (rank - 1) ≡ rank = omega arith in subst (λ n. at_rank n xs ≡ Some (get_or xs (rank - 1) d)) up (at_place xs (rank - 1) d (omega arith))
 
 -- what is kept at a place is what inquiring at its rank tells
-module _ (m : Meaning) (h : ℕ) (t : Table) (keeps : Keeps m h t) (rank : ℕ) (low : 1 ≤ rank) (high : rank ≤ t.count) (d : Row) (e : Finding) where
-  row_is : get_or (table_rows t) (rank - 1) d ≡ get_or t.rows (rank - 1) d
-  row_is = get_or-take t.count t.rows (rank - 1) d (omega arith)
-
-  finding_is : tells (get_or t.findings (rank - 1) e) ≡ row_finding m h (get_or t.rows (rank - 1) d) (take (rank - 1) (table_rows t))
+module _ (m : Meaning) (k : Kept) (keeps : Keeps m k) (rank : ℕ) (low : 1 ≤ rank) (high : rank ≤ length k.table.rows) (d : Row) (e : Finding) where
+  finding_is : tells (get_or k.findings.items (rank - 1) e) ≡ row_finding m k.table.frame (get_or k.table.rows (rank - 1) d) (take (rank - 1) k.table.rows)
   finding_is =
       let place = rank - 1 in
-      let many : length (take t.count t.findings) ≡ t.count = length-take-le t.count t.findings (omega (arith, keeps.counted.few, keeps.counted.finding_places)) in
-      ap tells (sym (get_or-take t.count t.findings place e (omega arith)))
-      ∙ sym (get_or-map tells (take t.count t.findings) place e (tells e) (omega arith))
-      ∙ ap (λ fs. get_or fs place (tells e)) keeps.counted.counted
-      ∙ finding_below_at m h [] (table_rows t) place (tells e) d (omega (arith, many_rows m h t keeps)) ∙ ap (λ s. row_finding m h s (take place (table_rows t))) row_is
+      let many : length k.findings.items ≡ length k.table.rows =
+      sym (length-map k.findings.items tells) ∙ ap length keeps.counted ∙ length_findings_below m k.table.frame [] k.table.rows in
+      sym (get_or-map tells k.findings.items place e (tells e) (omega arith))
+      ∙ ap (λ fs. get_or fs place (tells e)) keeps.counted
+      ∙ finding_below_at m k.table.frame [] k.table.rows place (tells e) d (omega arith)
 
-  pub inquired : gives (row_found (plain (get_or t.rows (rank - 1) d)) (tells (get_or t.findings (rank - 1) e)))
-      ≡ checked (checks_of m (book h (table_rows t)) (Inquire rank)) (told m (book h (table_rows t)) (Inquire rank))
+  pub inquired : gives (row_found (plain (get_or k.table.rows (rank - 1) d)) (tells (get_or k.findings.items (rank - 1) e)))
+      ≡ checked (checks_of m k.table (Inquire rank)) (told m k.table (Inquire rank))
   inquired =
-      let rows = table_rows t in
-      let r = get_or t.rows (rank - 1) d in
-      let there : at_rank rank rows ≡ Some r = rank_place rows rank d low (omega (arith, many_rows m h t keeps)) ∙ ap Some row_is in
-      let tells_so : told m (book h rows) (Inquire rank) ≡ row_found (plain r) (row_finding m h r (take (rank - 1) rows)) =
-      ap (λ o. unwrap_or (option_map (λ r. row_found (plain r) (row_finding m h r (take (rank - 1) rows))) o) done) there in
-      sym (passes_on (not (is_rank (length rows) rank)) NoRank 0 (gives (told m (book h rows) (Inquire rank))) (is_within (length rows) rank low (omega (arith, many_rows m h t keeps)))
+      let rows = k.table.rows in
+      let r = get_or rows (rank - 1) d in
+      let there : at_rank rank rows ≡ Some r = rank_place rows rank d low high in
+      let tells_so : told m k.table (Inquire rank) ≡ row_found (plain r) (row_finding m k.table.frame r (take (rank - 1) rows)) =
+      ap (λ o. unwrap_or (option_map (λ r. row_found (plain r) (row_finding m k.table.frame r (take (rank - 1) rows))) o) done) there in
+      sym (passes_on (not (is_rank (length rows) rank)) NoRank 0 (gives (told m k.table (Inquire rank))) (is_within (length rows) rank low high)
       ∙ ap gives (tells_so ∙ ap (row_found (plain r)) (sym finding_is)))
 
 -- a table with a row of four numbers put in at a rank
-module _ {B : Type 0} (m : Meaning) (bound : B) (h : ℕ) (t : Table) (keeps : Keeps m h t) (rank : ℕ) (n : Numbers) (r : Row)
-    (judged : gives (plain r) ≡ checked (flaw_checks (frame_flaws h) n 0) n) (room : t.count + 1 ≤ most_rows) (low : 1 ≤ rank) (high : rank ≤ t.count + 1)
-    (new : Table) (counted : IsCounted m h new) (with : table_rows new ≡ insert (table_rows t) (rank - 1) r) where
+module _ {B : Type 0} (m : Meaning) (bound : B) (k : Kept) (keeps : Keeps m k) (rank : ℕ) (n : Numbers) (r : Row)
+    (judged : gives (plain r) ≡ checked (flaw_checks (frame_flaws k.table.frame) n 0) n) (room : length k.table.rows + 1 ≤ most_rows) (low : 1 ≤ rank) (high : rank ≤ length k.table.rows + 1)
+    (new : Kept) (counted : IsCounted m new) (with : new.table ≡ book k.table.frame (insert k.table.rows (rank - 1) r)) where
   -- is kept where no row misses
-  pub kept_with : position is_miss (table_findings new) ≡ None → Keeps m h new
-  kept_with none = record { counted = counted; meet = all_meet (table_findings new) none }
+  pub kept_with : position is_miss (kept_findings new) ≡ None → Keeps m new
+  kept_with none = record { counted = counted; meet = all_meet (kept_findings new) none }
+
+  -- its findings are those of the rows with the newcomer
+  found_with : kept_findings new ≡ findings_of m k.table.frame (insert k.table.rows (rank - 1) r)
+  found_with = counted ∙ ap (λ b. findings_of m b.frame b.rows) with
 
   -- then the row is admitted
-  pub admits_so : position is_miss (table_findings new) ≡ None → Does m (Admit rank n) (seen bound h t) (seen bound h new) Done
+  pub admits_so : position is_miss (kept_findings new) ≡ None → Does m (Admit rank n) (seen bound k) (seen bound new) Done
   admits_so none =
-      let many = many_rows m h t keeps in
-      let b = book h (table_rows t) in
-      does_so m (Admit rank n) (seen bound h t) (seen bound h new) Done done
-      (admits m b rank n r judged (omega (arith, many)) low (omega (arith, many)) (table_rows new) with (ap (position is_miss) (sym counted.counted) ∙ none))
+      does_so m (Admit rank n) (seen bound k) (seen bound new) Done done
+      (admits m k.table rank n r judged room low high (insert k.table.rows (rank - 1) r) refl (ap (position is_miss) (sym found_with) ∙ none))
       refl
-      (kept_is m bound h new (kept_with none) ∙ ap (λ rs. bench m bound (book h rs)) (with ∙ sym (newcomer_is m b rank n r judged)))
+      (kept_is m bound new (kept_with none) ∙ ap (bench m bound) (with ∙ ap (book k.table.frame) (sym (newcomer_is m k.table rank n r judged))))
 
   -- and where one misses, it is refused for the first that does
-  pub overloads_so : (i : ℕ) → position is_miss (table_findings new) ≡ Some i
-      → Does m (Admit rank n) (seen bound h t) (seen bound h t) (Refused (record { refusal = Overload; at = i + 1 }))
+  pub overloads_so : (i : ℕ) → position is_miss (kept_findings new) ≡ Some i
+      → Does m (Admit rank n) (seen bound k) (seen bound k) (Refused (record { refusal = Overload; at = i + 1 }))
   overloads_so i some =
-      let many = many_rows m h t keeps in
-      refuses_so m (Admit rank n) (seen bound h t) (record { refusal = Overload; at = i + 1 }) (kept_is m bound h t keeps)
-      (overloads m (book h (table_rows t)) rank n r judged (omega (arith, many)) low (omega (arith, many)) (table_rows new) with i (ap (position is_miss) (sym counted.counted) ∙ some))
+      refuses_so m (Admit rank n) (seen bound k) (record { refusal = Overload; at = i + 1 }) (kept_is m bound k keeps)
+      (overloads m k.table rank n r judged room low high (insert k.table.rows (rank - 1) r) refl i (ap (position is_miss) (sym found_with) ∙ some))

@@ -4,6 +4,7 @@ use Rattle.std.specs.List.{AllPass}
 use Rattle.std.proofs.Math.Seq.{split_at}
 use Rattle.std.proofs.lemmas.List.{append_assoc, append-nil, get_or_at, length-append}
 use Rattle.std.proofs.lemmas.List.Elements.{All-nil}
+use Rattle.rows.specs.declared.frames.FrameNumbers.{FrameNumbers}
 use Rattle.rows.specs.declared.tasks.Row.{Row}
 use Rattle.bounds.specs.Meaning.{Meaning}
 use Rattle.rows.specs.Found.{Found, is_met}
@@ -11,7 +12,7 @@ use Rattle.findings.specs.Findings.{row_finding}
 use Rattle.findings.specs.Tables.{findings_below, findings_of}
 use Rattle.findings.proofs.Tables.{length_findings_below, finding_below_at}
 
-module _ (m : Meaning) (h : ℕ) where
+module _ (m : Meaning) (h : FrameNumbers) where
   -- the findings of rows one after the other are those of the first, and those of the others below them
   pub findings_append : (above xs ys : List Row) → findings_below m h above (xs ++ ys) ≡ findings_below m h above xs ++ findings_below m h (above ++ xs) ys
   findings_append above [] ys = ap (λ a. findings_below m h a ys) (sym (append-nil above))

@@ -5,6 +5,7 @@ use Rattle.std.proofs.lemmas.Bool.{not_from_true}
 use Rattle.std.proofs.lemmas.List.Elements.{All-weaker}
 use Rattle.rows.specs.declared.refusals.Refusal.TheVariants.{Overload}
 use Rattle.rows.specs.declared.tasks.Numbers.{Numbers}
+use Rattle.rows.specs.declared.frames.FrameNumbers.{FrameNumbers}
 use Rattle.rows.specs.declared.tasks.Row.{Row}
 use Rattle.rows.specs.Answers.{gives}
 use Rattle.rows.proofs.Checks.{passed_first, places_pass_on}
@@ -17,22 +18,22 @@ use Rattle.brackets.proofs.Earlier.{some_earlier}
 use Rattle.brackets.proofs.Tails.{finer_tails}
 use Rattle.admission.specs.declared.calls.Call.TheVariants.{Admit}
 use Rattle.rows.specs.Found.{is_met, is_miss}
-use Rattle.admission.specs.Books.{Book, with_newcomer, step}
+use Rattle.rows.specs.Books.{Book}
+use Rattle.admission.specs.Books.{entry_checks, overload_check, with_newcomer, step}
 use Rattle.admission.specs.Promises.{FinerAdmits, FinerRests}
 use Rattle.admission.specs.Replies.{done}
 use Rattle.admission.specs.Runs.{book_after}
-use Rattle.admission.proofs.Entry.{entry_checks}
 use Rattle.admission.proofs.Findings.{each_meets, all_met}
-use Rattle.admission.proofs.Steps.{step_answers, stands_before, stands_with, runs_sound, admitted, overload_check}
+use Rattle.admission.proofs.Steps.{step_answers, stands_before, stands_with, runs_sound, admitted}
 
 -- rows that meet by a linear tail meet by every more accurate one
-finer_meet : (k k' h : ℕ) (rows : List Row) → 1 ≤ k → k ≤ k' → StandOn h rows → AllPass is_met (findings_of (linear_tail k) h rows) → AllPass is_met (findings_of (linear_tail k') h rows)
+finer_meet : (k k' : ℕ) (h : FrameNumbers) (rows : List Row) → 1 ≤ k → k ≤ k' → StandOn h.ticks rows → AllPass is_met (findings_of (linear_tail k) h rows) → AllPass is_met (findings_of (linear_tail k') h rows)
 finer_meet k k' h rows low order stand met =
     all_met (linear_tail k') h rows
-    (λ xs ys r split. some_earlier _ _ (finer_tails k k' h r xs low order (stands_before h rows xs (r ∷ ys) stand split)) (each_meets (linear_tail k) h rows met xs ys r split))
+    (λ xs ys r split. some_earlier _ _ (finer_tails k k' h r xs low order (stands_before h.ticks rows xs (r ∷ ys) stand split)) (each_meets (linear_tail k) h rows met xs ys r split))
 
 -- on a book that is sound a newcomer that a linear tail admits is admitted by every more accurate one
-finer_admit : (k k' : ℕ) (b : Book) (rank : ℕ) (n : Numbers) → 1 ≤ k → k ≤ k' → StandOn b.frame b.rows → (step (linear_tail k) b (Admit rank n)).1 ≡ gives done → (step (linear_tail k') b (Admit rank n)).1 ≡ gives done
+finer_admit : (k k' : ℕ) (b : Book) (rank : ℕ) (n : Numbers) → 1 ≤ k → k ≤ k' → StandOn b.frame.ticks b.rows → (step (linear_tail k) b (Admit rank n)).1 ≡ gives done → (step (linear_tail k') b (Admit rank n)).1 ≡ gives done
 finer_admit k k' b rank n low order stand admits =
     let m = linear_tail k in
     let m' = linear_tail k' in
@@ -54,5 +55,5 @@ finer_admits k k' calls calls' low order same rank n admits =
 pub finer_rests : FinerRests
 finer_rests k k' calls calls' low order same xs ys r split =
     let b = book_after (linear_tail k) calls in
-    let stand = stands_before b.frame b.rows xs (r ∷ ys) (runs_sound (linear_tail k) calls).stand split in
+    let stand = stands_before b.frame.ticks b.rows xs (r ∷ ys) (runs_sound (linear_tail k) calls).stand split in
     subst (λ other. IsNoLater (row_finding (linear_tail k') other.frame r xs).rest (row_finding (linear_tail k) b.frame r xs).rest) same (finer_tails k k' b.frame r xs low order stand)

@@ -1,8 +1,5 @@
-pub mod Moved
 pub mod Findings
-pub mod Asking
 pub mod Counted
-pub mod Arriving
 pub mod Entry
 pub mod Runs
 pub mod Steps

@@ -7,6 +7,7 @@ use Rattle.std.proofs.lemmas.List.{drop_at, get_or_append_left, length-take-le}
 use Rattle.std.proofs.lemmas.List.Quantifiers.{position-Some}
 use Rattle.rows.specs.declared.refusals.Refusal.TheVariants.{Overload}
 use Rattle.rows.specs.declared.tasks.Numbers.{Numbers}
+use Rattle.rows.specs.declared.frames.FrameNumbers.{FrameNumbers}
 use Rattle.rows.specs.declared.tasks.Row.{Row}
 use Rattle.rows.specs.Answers.{gives, refuses, refuses_at, check_each, checked}
 use Rattle.rows.specs.Lists.{first_of, at_rank}
@@ -20,21 +21,22 @@ use Rattle.brackets.proofs.Bracket.{brackets}
 use Rattle.admission.specs.declared.calls.Call.{Call}
 use Rattle.admission.specs.declared.calls.Call.TheVariants.{Frame, Admit, Dismiss, Inquire}
 use Rattle.rows.specs.Found.{is_met, is_miss}
-use Rattle.admission.specs.Books.{Book, with_newcomer, checks_of, first_book, told, step}
+use Rattle.rows.specs.Books.{Book}
+use Rattle.admission.specs.Books.{checks_of, entry_checks, first_book, overload_check, step, told, with_newcomer}
 use Rattle.admission.specs.Promises.{NamesMiss, OverloadsMiss}
 use Rattle.admission.specs.Replies.{Told}
 use Rattle.admission.specs.Runs.{book_after, answers_to, answers_from}
-use Rattle.admission.proofs.Entry.{entry_checks, enters, left_to}
+use Rattle.admission.proofs.Entry.{enters, left_to}
 use Rattle.admission.proofs.Findings.{findings_append, finding_there}
 use Rattle.admission.proofs.Runs.{answers_from_append, length_answers_to}
-use Rattle.admission.proofs.Steps.{step_answers, stands_before, stands_with, runs_sound, parts_at, overload_check}
+use Rattle.admission.proofs.Steps.{step_answers, stands_before, stands_with, runs_sound, parts_at}
 
 -- a miss has no first rest
 no_rest : (o : Option ℕ) (points : ℕ) → is_miss (record { rest = o; points = points }) ≡ true → o ≡ None
 no_rest None points miss = refl
 no_rest (Some t) points miss = cc
 
-module _ (m : Meaning) (h : ℕ) where
+module _ (m : Meaning) (h : FrameNumbers) where
   -- where a first finding is a miss, all before it are met
   met_before : (xs ys : List Row) (r : Row) → position is_miss (findings_of m h (xs ++ r ∷ ys)) ≡ Some (length xs) → AllPass is_met (findings_of m h xs)
   met_before xs ys r first = λ k d within.
@@ -51,7 +53,7 @@ module _ (m : Meaning) (h : ℕ) where
       no_rest f.rest f.points (ap is_miss (sym (finding_there m h xs ys r f)) ∙ (position-Some is_miss (findings_of m h (xs ++ r ∷ ys)) (length xs) f first).1)
 
   -- so the place of the first miss names a row
-  names_miss : Laws m → (rows : List Row) (i : ℕ) → StandOn h rows → position is_miss (findings_of m h rows) ≡ Some i → NamesMiss m h rows (i + 1)
+  names_miss : Laws m → (rows : List Row) (i : ℕ) → StandOn h.ticks rows → position is_miss (findings_of m h rows) ≡ Some i → NamesMiss m h rows (i + 1)
   names_miss laws rows i stand first =
       let within : i < length rows = omega (arith, (position-Some is_miss (findings_of m h rows) i (record { rest = None; points = 0 }) first).0, length_findings_below m h [] rows) in
       let parts = parts_at (i + 1) rows (omega arith) (omega arith) in
@@ -69,11 +71,11 @@ module _ (m : Meaning) (h : ℕ) where
         rank = ap (λ n. n + 1) (sym place);
         first = met_before above below parts.0 there;
         misses = misses;
-        slow = (brackets laws h parts.0 above (stands_before h rows above (parts.0 ∷ below) stand parts.1)).misses misses;
+        slow = (brackets laws h parts.0 above (stands_before h.ticks rows above (parts.0 ∷ below) stand parts.1)).misses misses;
       }
 
   -- and where the check of the findings refuses, it names one
-  refusal_names : Laws m → (rows : List Row) (at : ℕ) (y : Told) → StandOn h rows → refuses Overload at ≡ checked (check_each is_miss Overload (findings_of m h rows) ∷ []) y → NamesMiss m h rows at
+  refusal_names : Laws m → (rows : List Row) (at : ℕ) (y : Told) → StandOn h.ticks rows → refuses Overload at ≡ checked (check_each is_miss Overload (findings_of m h rows) ∷ []) y → NamesMiss m h rows at
   refusal_names laws rows at y stand refused = by (position is_miss (findings_of m h rows)) refl refused
     where
       by : (o : Option ℕ) → position is_miss (findings_of m h rows) ≡ o → refuses Overload at ≡ refuses_at Overload (option_map (λ i. i + 1) o) (gives y) → NamesMiss m h rows at
@@ -81,7 +83,7 @@ module _ (m : Meaning) (h : ℕ) where
       by (Some i) first refused = let place : i + 1 ≡ at = cc in subst (NamesMiss m h rows) place (names_miss laws rows i stand first)
 
 -- a call that is refused for overload is an admit, and the refusal names such a row
-overload_misses : (m : Meaning) → Laws m → (b : Book) → StandOn b.frame b.rows → (c : Call) (at : ℕ) → refuses Overload at ≡ checked (checks_of m b c) (told m b c)
+overload_misses : (m : Meaning) → Laws m → (b : Book) → StandOn b.frame.ticks b.rows → (c : Call) (at : ℕ) → refuses Overload at ≡ checked (checks_of m b c) (told m b c)
     → (rank : ℕ) × (n : Numbers) × (c ≡ Admit rank n) × NamesMiss m b.frame (with_newcomer rank n b.rows) at
 overload_misses m laws b stand (Admit rank n) at refused =
     let passed = left_to (entry_checks b rank n) (overload_check m b rank n ∷ []) (refuses Overload at) (told m b (Admit rank n)) refl refused in

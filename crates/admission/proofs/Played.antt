@@ -6,7 +6,8 @@ use Rattle.bounds.specs.Meaning.{Meaning}
 use Rattle.admission.specs.declared.calls.Call.{Call}
 use Rattle.admission.specs.declared.calls.Reply.{Reply}
 use Rattle.admission.specs.Benches.{Held, bench, Does}
-use Rattle.admission.specs.Books.{Book, step}
+use Rattle.rows.specs.Books.{Book}
+use Rattle.admission.specs.Books.{step}
 use Rattle.admission.specs.Replies.{Told, answer_of}
 use Rattle.admission.specs.Runs.{answers_from, answers_to, book_after, book_from}
 use Rattle.admission.proofs.Runs.{book_after_push}

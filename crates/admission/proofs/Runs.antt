@@ -2,7 +2,8 @@
 use Rattle.std.proofs.Common.{◌≡◌, suc, List, [], ◌∷◌, ◌++◌, length, refl, ap}
 use Rattle.bounds.specs.Meaning.{Meaning}
 use Rattle.admission.specs.declared.calls.Call.{Call}
-use Rattle.admission.specs.Books.{Book, first_book, step}
+use Rattle.rows.specs.Books.{Book}
+use Rattle.admission.specs.Books.{first_book, step}
 use Rattle.admission.specs.Runs.{book_from, answers_from, book_after, answers_to}
 
 module _ (m : Meaning) where

@@ -1,5 +1,6 @@
 -- What the standing rows keep.
 use Rattle.std.proofs.Common.{◌≡◌, ℕ, true, List, ◌∷◌, is_some, Some, None, Option, refl, subst}
+use Rattle.rows.specs.declared.frames.FrameNumbers.{FrameNumbers}
 use Rattle.rows.specs.declared.tasks.Row.{Row}
 use Rattle.bounds.specs.Laws.{Laws}
 use Rattle.bounds.specs.Meaning.{Meaning}
@@ -13,7 +14,7 @@ use Rattle.admission.proofs.Findings.{each_meets}
 use Rattle.admission.proofs.Steps.{stands_before, runs_sound}
 
 -- a row that meets by a bound whose first rest lies between those in exact steps meets by both
-meets_by_both : (m : Meaning) (h : ℕ) (r : Row) (above : List Row) → LiesBetween m.accuracy r above (row_finding m h r above).rest → is_some (row_finding m h r above).rest ≡ true → MeetsByBoth m h r above
+meets_by_both : (m : Meaning) (h : FrameNumbers) (r : Row) (above : List Row) → LiesBetween m.accuracy r above (row_finding m h r above).rest → is_some (row_finding m h r above).rest ≡ true → MeetsByBoth m h r above
 meets_by_both m h r above between met = by (row_finding m h r above).rest (exact_rest r above) refl refl met between.exact
   where
     by : (bounded exact : Option ℕ) → (row_finding m h r above).rest ≡ bounded → exact_rest r above ≡ exact → is_some bounded ≡ true → IsNoLater exact bounded → MeetsByBoth m h r above
@@ -34,5 +35,5 @@ pub standing_rows_meet : (m : Meaning) → Laws m → StandingRowsMeet m
 standing_rows_meet m laws calls xs ys r split =
     let b = book_after m calls in
     let sound = runs_sound m calls in
-    let between = brackets laws b.frame r xs (stands_before b.frame b.rows xs (r ∷ ys) sound.stand split) in
+    let between = brackets laws b.frame r xs (stands_before b.frame.ticks b.rows xs (r ∷ ys) sound.stand split) in
     meets_by_both m b.frame r xs between (each_meets m b.frame b.rows sound.meet xs ys r split)

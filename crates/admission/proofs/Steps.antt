@@ -5,8 +5,9 @@ use Rattle.std.proofs.Math.Seq.{split_at}
 use Rattle.std.proofs.lemmas.Bool.{not-false, ltb-false}
 use Rattle.std.proofs.lemmas.List.{append_assoc, append-nil, drop_at, length-append, length-drop, length-take-le, nil_from_length, take_at}
 use Rattle.std.proofs.lemmas.List.Elements.{All-nil, All-cons, All-append, All-take, All-drop, All-weaker, All-head, All-tail}
+use Rattle.rows.specs.declared.frames.FrameNumbers.{FrameNumbers}
 use Rattle.rows.specs.declared.refusals.Refusal.{Refusal}
-use Rattle.rows.specs.declared.refusals.Refusal.TheVariants.{Overload}
+use Rattle.rows.specs.declared.refusals.Refusal.TheVariants.{BadFrame, StandingRows, NoRank, Overload}
 use Rattle.rows.specs.declared.tasks.Numbers.{Numbers}
 use Rattle.rows.specs.declared.tasks.Row.{Row}
 use Rattle.rows.specs.Answers.{Answer, gives, refuses, Check, check_each, checked, Passes}
@@ -22,15 +23,18 @@ use Rattle.brackets.proofs.Bracket.{fewer_above}
 use Rattle.brackets.proofs.Earlier.{some_earlier}
 use Rattle.admission.specs.declared.calls.Call.{Call}
 use Rattle.admission.specs.declared.calls.Call.TheVariants.{Frame, Admit, Dismiss, Inquire}
-use Rattle.admission.specs.Books.{Book, book, first_book, with_newcomer, without, is_rank, checks_of, once_done, told, step}
+use Rattle.rows.specs.Books.{Book, book}
+use Rattle.rows.specs.Ranks.{is_rank}
+use Rattle.rows.proofs.Ranked.{rank_within}
+use Rattle.admission.specs.Books.{checks_of, entry_checks, first_book, once_done, overload_check, step, told, with_newcomer, without}
 use Rattle.admission.specs.Replies.{Told}
 use Rattle.admission.specs.Runs.{book_from, book_after}
 use Rattle.admission.proofs.Findings.{findings_append}
-use Rattle.admission.proofs.Entry.{Enters, enters, entry_checks, left_to, rank_within}
+use Rattle.admission.proofs.Entry.{Enters, enters, left_to}
 
 -- the rows of a book stand on its frame, there are places enough, and every row meets
 pub record Sound (m : Meaning) (b : Book) : Type 0 where
-  pub stand : StandOn b.frame b.rows
+  pub stand : StandOn b.frame.ticks b.rows
   pub few : length b.rows ≤ most_rows
   pub meet : AllPass is_met (findings_of m b.frame b.rows)
 
@@ -66,14 +70,14 @@ first_sound m =
     }
 
 -- with a newcomer that enters, the rows stand on the frame
-pub stands_with : (b : Book) (rank : ℕ) (n : Numbers) → StandOn b.frame b.rows → Enters b rank n → StandOn b.frame (with_newcomer rank n b.rows)
+pub stands_with : (b : Book) (rank : ℕ) (n : Numbers) → StandOn b.frame.ticks b.rows → Enters b rank n → StandOn b.frame.ticks (with_newcomer rank n b.rows)
 stands_with b rank n stand entry =
-    let On : Row → Type 0 = λ s. is_on_frame b.frame s ≡ true in
+    let On : Row → Type 0 = λ s. is_on_frame b.frame.ticks s ≡ true in
     let front = take (rank - 1) b.rows in
     let back = drop (rank - 1) b.rows in
     let rest = All-cons On entry.row back entry.on (All-drop On (rank - 1) b.rows stand.on) in
-    let rows : AllPass (is_on_frame b.frame) (front ++ entry.row ∷ back) = All-append On front (entry.row ∷ back) (All-take On (rank - 1) b.rows stand.on) rest in
-    record { frame = stand.frame; on = subst (λ new. AllPass (is_on_frame b.frame) (front ++ (new ++ back))) (sym entry.made) rows }
+    let rows : AllPass (is_on_frame b.frame.ticks) (front ++ entry.row ∷ back) = All-append On front (entry.row ∷ back) (All-take On (rank - 1) b.rows stand.on) rest in
+    record { frame = stand.frame; on = subst (λ new. AllPass (is_on_frame b.frame.ticks) (front ++ (new ++ back))) (sym entry.made) rows }
 
 -- and there is one more of them
 pub length_with : (b : Book) (rank : ℕ) (n : Numbers) → Enters b rank n → length (with_newcomer rank n b.rows) ≡ length b.rows + 1
@@ -84,7 +88,7 @@ length_with b rank n entry =
     ∙ omega (arith, length-append front (entry.row ∷ back), length-take-le (rank - 1) b.rows (omega (arith, entry.high)), length-drop (rank - 1) b.rows, entry.low, entry.high)
 
 -- rows that meet below others still meet with one of those taken away
-still_met : (m : Meaning) (h : ℕ) (x : Row) (xs ys rows : List Row) → AllPass is_met (findings_below m h (xs ++ x ∷ ys) rows) → AllPass is_met (findings_below m h (xs ++ ys) rows)
+still_met : (m : Meaning) (h : FrameNumbers) (x : Row) (xs ys rows : List Row) → AllPass is_met (findings_below m h (xs ++ x ∷ ys) rows) → AllPass is_met (findings_below m h (xs ++ ys) rows)
 still_met m h x xs ys [] met = All-nil (λ f. is_met f ≡ true)
 still_met m h x xs ys (r ∷ rows) met =
     let Met : Found → Type 0 = λ f. is_met f ≡ true in
@@ -96,7 +100,7 @@ still_met m h x xs ys (r ∷ rows) met =
     (subst (λ a. AllPass is_met (findings_below m h a rows)) (sym (append_assoc xs ys (r ∷ []))) (still_met m h x xs (ys ++ r ∷ []) rows later))
 
 -- and so does every row of a table
-met_without : (m : Meaning) (h : ℕ) (x : Row) (xs ys : List Row) → AllPass is_met (findings_of m h (xs ++ x ∷ ys)) → AllPass is_met (findings_of m h (xs ++ ys))
+met_without : (m : Meaning) (h : FrameNumbers) (x : Row) (xs ys : List Row) → AllPass is_met (findings_of m h (xs ++ x ∷ ys)) → AllPass is_met (findings_of m h (xs ++ ys))
 met_without m h x xs ys met =
     let Met : Found → Type 0 = λ f. is_met f ≡ true in
     let first = findings_of m h xs in
@@ -118,7 +122,7 @@ parts_at rank (s ∷ rows) low high =
 -- what holds of a book holds with a row dismissed
 pub without_sound : (m : Meaning) (b : Book) (rank : ℕ) → Sound m b → 1 ≤ rank → rank ≤ length b.rows → Sound m (book b.frame (without rank b.rows))
 without_sound m b rank sound low high =
-    let On : Row → Type 0 = λ s. is_on_frame b.frame s ≡ true in
+    let On : Row → Type 0 = λ s. is_on_frame b.frame.ticks s ≡ true in
     let front = take (rank - 1) b.rows in
     let back = drop rank b.rows in
     let parts = parts_at rank b.rows low high in
@@ -133,10 +137,6 @@ pub with_sound : (m : Meaning) (b : Book) (rank : ℕ) (n : Numbers) → Sound m
 with_sound m b rank n sound entry met =
     record { stand = stands_with b rank n sound.stand entry; few = omega (arith, length_with b rank n entry, entry.room); meet = met }
 
--- the checks of an admit end with that for overload
-abbrev pub overload_check : Meaning → Book → ℕ → Numbers → Check
-overload_check m b rank n = check_each is_miss Overload (findings_of m b.frame (with_newcomer rank n b.rows))
-
 -- an admit that is answered has passed its checks but for overload: the newcomer enters, and with it every row meets
 pub admitted : (m : Meaning) (b : Book) (rank : ℕ) (n : Numbers) (x y : Told) → gives x ≡ checked (checks_of m b (Admit rank n)) y → Passes (entry_checks b rank n) × Enters b rank n × AllPass is_met (findings_of m b.frame (with_newcomer rank n b.rows))
 admitted m b rank n x y given =
@@ -148,18 +148,18 @@ admitted m b rank n x y given =
 -- a call that is answered keeps the book sound
 done_sound : (m : Meaning) (b : Book) (c : Call) (x y : Told) → gives x ≡ checked (checks_of m b c) y → Sound m b → Sound m (once_done b c)
 done_sound m b (Frame h) x y given sound =
-    let frame = first_passes (not (is_frame h)) 1 0 x _ given in
-    let standing = first_passes (ltb 0 (length b.rows)) 2 0 x _ frame.1 in
+    let frame = first_passes (not (is_frame h.ticks)) BadFrame 0 x _ given in
+    let standing = first_passes (ltb 0 (length b.rows)) StandingRows 0 x _ frame.1 in
     let none : b.rows ≡ [] = nil_from_length b.rows (omega (arith, ltb-false 0 (length b.rows) standing.0)) in
     subst (λ rows. Sound m (book h rows)) (sym none)
     (record {
-      stand = record { frame = not-false (is_frame h) frame.0; on = All-nil (λ s. is_on_frame h s ≡ true) };
+      stand = record { frame = not-false (is_frame h.ticks) frame.0; on = All-nil (λ s. is_on_frame h.ticks s ≡ true) };
       few = omega arith;
       meet = All-nil (λ f. is_met f ≡ true);
     })
 done_sound m b (Admit rank n) x y given sound = let passed = admitted m b rank n x y given in with_sound m b rank n sound passed.1 passed.2
 done_sound m b (Dismiss rank) x y given sound =
-    let within = rank_within (length b.rows) rank (first_passes (not (is_rank (length b.rows) rank)) 10 0 x _ given).0 in
+    let within = rank_within (length b.rows) rank (first_passes (not (is_rank (length b.rows) rank)) NoRank 0 x _ given).0 in
     without_sound m b rank sound within.0 within.1
 done_sound m b (Inquire rank) x y given sound = sound
 

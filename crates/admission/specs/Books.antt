@@ -1,13 +1,15 @@
--- The book of a bench, and a call on it.
-use Rattle.std.specs.Prelude.{ℕ, ◌+◌, ◌-◌, Bool, not, ◌&&◌, List, [], ◌∷◌, ◌++◌, length, take, drop, nat_le, nat_lt}
+-- The book of a bench, the frame and the rows in rank order that its calls have come to; and a call on it.
+use Rattle.std.specs.Prelude.{ℕ, ◌-◌, List, [], ◌∷◌, ◌++◌, length, take, drop, nat_lt}
 use Rattle.std.specs.Option.{option_map, unwrap_or}
-use Rattle.rows.specs.declared.refusals.Refusal.TheVariants.{BadFrame, StandingRows, FullTable, NoRank, Overload}
+use Rattle.rows.specs.declared.refusals.Refusal.TheVariants.{StandingRows, Overload}
 use Rattle.rows.specs.declared.tasks.Numbers.{Numbers}
 use Rattle.rows.specs.declared.tasks.Row.{Row}
 use Rattle.rows.specs.Answers.{Answer, gives, refuses, Check, check, check_each, checked}
+use Rattle.rows.specs.Books.{Book, book, place_checks}
+use Rattle.rows.specs.Frames.{frame_checks, frame_of}
 use Rattle.rows.specs.Judging.{plain, rows_of, frame_flaws, flaw_checks}
 use Rattle.rows.specs.Lists.{at_rank}
-use Rattle.rows.specs.Times.{is_frame, most_rows}
+use Rattle.rows.specs.Ranks.{rank_checks}
 use Rattle.bounds.specs.Meaning.{Meaning}
 use Rattle.rows.specs.Found.{is_miss}
 use Rattle.findings.specs.Findings.{row_finding}
@@ -16,22 +18,9 @@ use Rattle.admission.specs.declared.calls.Call.{Call}
 use Rattle.admission.specs.declared.calls.Call.TheVariants.{Frame, Admit, Dismiss, Inquire}
 use Rattle.admission.specs.Replies.{Told, done, row_found}
 
--- the book of a bench: the frame and the rows in rank order that its calls have come to
-pub record Book : Type 0 where
-  pub frame : ℕ
-  pub rows : List Row
-
--- a book, written out
-abbrev pub book : ℕ → List Row → Book
-book h rows = record { frame = h; rows = rows }
-
 -- the book of a new bench: frame 1 and no row
 abbrev pub first_book : Book
-first_book = book 1 []
-
--- a rank of so many: from 1 to the last
-abbrev pub is_rank : ℕ → ℕ → Bool
-is_rank last rank = nat_le 1 rank && nat_le rank last
+first_book = book (frame_of 1) []
 
 -- the rows with the row of four numbers put in at a rank; those from there on move down
 abbrev pub with_newcomer : ℕ → Numbers → List Row → List Row
@@ -41,18 +30,21 @@ with_newcomer rank n rows = take (rank - 1) rows ++ (rows_of (n ∷ []) ++ drop 
 abbrev pub without : ℕ → List Row → List Row
 without rank rows = take (rank - 1) rows ++ drop rank rows
 
--- what is checked of a call on a book, in order. Overload, 11, tells the smallest rank at which a row misses with the
--- newcomer in place; nothing else tells a rank
+-- what is checked of an admit but for overload, in order: the flaws of the four numbers on the book's frame; full table;
+-- no rank
+abbrev pub entry_checks : Book → ℕ → Numbers → List Check
+entry_checks b rank n = flaw_checks (frame_flaws b.frame) n 0 ++ place_checks (length b.rows) rank
+
+-- whether some row misses with the newcomer in place: overload, which tells the smallest rank that does
+abbrev pub overload_check : Meaning → Book → ℕ → Numbers → Check
+overload_check m b rank n = check_each is_miss Overload (findings_of m b.frame (with_newcomer rank n b.rows))
+
+-- what is checked of a call on a book, in order. Overload tells a rank; nothing else does
 abbrev pub checks_of : Meaning → Book → Call → List Check
-checks_of m b (Frame h) = check (not (is_frame h)) BadFrame 0 ∷ check (nat_lt 0 (length b.rows)) StandingRows 0 ∷ []
-checks_of m b (Admit rank n) =
-    flaw_checks (frame_flaws b.frame) n 0
-    ++ check (nat_le most_rows (length b.rows)) FullTable 0
-    ∷ check (not (is_rank (length b.rows + 1) rank)) NoRank 0
-    ∷ check_each is_miss Overload (findings_of m b.frame (with_newcomer rank n b.rows))
-    ∷ []
-checks_of m b (Dismiss rank) = check (not (is_rank (length b.rows) rank)) NoRank 0 ∷ []
-checks_of m b (Inquire rank) = check (not (is_rank (length b.rows) rank)) NoRank 0 ∷ []
+checks_of m b (Frame h) = frame_checks h ++ check (nat_lt 0 (length b.rows)) StandingRows 0 ∷ []
+checks_of m b (Admit rank n) = entry_checks b rank n ++ overload_check m b rank n ∷ []
+checks_of m b (Dismiss rank) = rank_checks (length b.rows) rank
+checks_of m b (Inquire rank) = rank_checks (length b.rows) rank
 
 -- the book once a call on it is done
 abbrev pub once_done : Book → Call → Book

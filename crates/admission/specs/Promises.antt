@@ -1,6 +1,7 @@
 -- What holds of a bench after every list of calls.
 use Rattle.std.specs.Prelude.{◌≡◌, ℕ, ◌+◌, ◌≤◌, List, [], ◌∷◌, ◌++◌, length, Some, None, nat_lt}
 use Rattle.std.specs.List.{AllPass}
+use Rattle.rows.specs.declared.frames.FrameNumbers.{FrameNumbers}
 use Rattle.rows.specs.declared.refusals.Refusal.TheVariants.{Overload, ShortList}
 use Rattle.rows.specs.declared.tasks.Numbers.{Numbers}
 use Rattle.rows.specs.declared.tasks.Row.{Row}
@@ -25,7 +26,7 @@ play_checks calls places = check (nat_lt places (length calls)) ShortList 0 ∷ 
 
 -- a row meets by a bound of accuracy k and in exact steps: exactly it rests no later than by the bound, and by the
 -- bound no later than exactly at speed k / (k + 1), where it rests at that speed
-pub record MeetsByBoth (m : Meaning) (h : ℕ) (r : Row) (above : List Row) : Type 0 where
+pub record MeetsByBoth (m : Meaning) (h : FrameNumbers) (r : Row) (above : List Row) : Type 0 where
   pub rest : ℕ
   pub exact : ℕ
   pub bounded : (row_finding m h r above).rest ≡ Some rest
@@ -41,7 +42,7 @@ StandingRowsMeet m =
 
 -- the rank at names the first row of a table that misses by a bound of accuracy k, and that row misses in exact steps
 -- at speed k / (k + 1)
-pub record NamesMiss (m : Meaning) (h : ℕ) (rows : List Row) (at : ℕ) : Type 0 where
+pub record NamesMiss (m : Meaning) (h : FrameNumbers) (rows : List Row) (at : ℕ) : Type 0 where
   pub above : List Row
   pub row : Row
   pub below : List Row

@@ -5,7 +5,6 @@ use Rattle.rows.specs.declared.tasks.Numbers.{Numbers}
 use Rattle.rows.specs.declared.tasks.Row.{Row}
 use Rattle.rows.specs.Answers.{Answer, gives, refuses}
 use Rattle.rows.specs.Judging.{plain}
-use Rattle.rows.specs.Refusals.{number}
 use Rattle.rows.specs.declared.verdicts.Finding.{Finding}
 use Rattle.rows.specs.Found.{Found, tells}
 use Rattle.admission.specs.declared.calls.Reply.{Reply}
@@ -16,7 +15,7 @@ pub data Told : Type 0 where
   done : Told
   row_found : Numbers → Found → Told
 
--- the answer that a reply is, in numbers: what is told, or the refusal by its number and the rank that it tells
+-- the answer that a reply is, in numbers: what is told, or the refusal and the rank that it tells
 abbrev pub answer_of : Reply → Answer Told
 answer_of Done = gives done
 answer_of (FoundRow row finding) = gives (row_found (plain row) (tells finding))

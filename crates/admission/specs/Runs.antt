@@ -1,9 +1,10 @@
 -- The book after a list of calls, and the answers to it.
 use Rattle.std.specs.Prelude.{List, [], ◌∷◌}
 use Rattle.rows.specs.Answers.{Answer}
+use Rattle.rows.specs.Books.{Book}
 use Rattle.bounds.specs.Meaning.{Meaning}
 use Rattle.admission.specs.declared.calls.Call.{Call}
-use Rattle.admission.specs.Books.{Book, first_book, step}
+use Rattle.admission.specs.Books.{first_book, step}
 use Rattle.admission.specs.Replies.{Told}
 
 -- the book that calls come to from another book, one after the other

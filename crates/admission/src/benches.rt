@@ -1,8 +1,8 @@
 // The bench: its four calls, and what can be seen of it.
 use crate::calls::{Call, Reply};
-use crate::keeping::Table;
+use crate::keeping::Kept;
 use bounds::Bound;
-use rows::{Fault, Finding, MOST_ROWS, Numbers, Refusal, Row, is_frame};
+use rows::{Fault, Finding, FrameNumbers, MOST_ROWS, Numbers, Refusal, Row, Table, check_rank};
 use std::marker::Model;
 
 /// An admission bench (docs/RULES.md, The bench): a table of at most 32 rows on a frame, on which
@@ -10,32 +10,29 @@ use std::marker::Model;
 #[derive(Debug, Drop)]
 pub struct Bench<B: Bound> {
     bound: B,
-    frame: u32,
-    table: Table,
+    kept: Kept,
 }
 
 impl<B: Bound> Model for Bench<B> {
-    ghost use Rattle.admission.specs.Benches.{Held, Keeps, table_rows, table_findings};
-    ghost use Rattle.admission.specs.Books.{book};
+    ghost use Rattle.admission.specs.Benches.{Held, Keeps, kept_findings};
 
     ghost Value = { Held B };
 
     ghost view = { λ b. record {
       bound = b.bound;
-      book = book b.frame (table_rows b.table);
-      findings = table_findings b.table;
+      book = b.kept.table;
+      findings = kept_findings b.kept;
     } };
 
-    ghost invariant = { λ b. Keeps (B.meaning b.bound) b.frame b.table };
+    ghost invariant = { λ b. Keeps (B.meaning b.bound) b.kept };
 }
 
 impl<B: Bound> Bench<B> {
     ghost use Rattle.std.specs.Prelude.{◌≡◌, map, OnErr};
     ghost use Rattle.std.specs.List.{AllPass};
     ghost use Rattle.rows.specs.Found.{tells, is_met};
-    ghost use Rattle.findings.specs.Countable.{CanBeCounted};
+    ghost use Rattle.rows.specs.Books.{IsJudged};
     ghost use Rattle.findings.specs.Tables.{findings_of};
-    ghost use Rattle.rows.specs.Times.{most_rows};
     ghost use Rattle.admission.specs.Benches.{bench, Does};
     ghost use Rattle.admission.specs.Books.{first_book};
     ghost use Rattle.admission.specs.Replies.{as_done, as_found, IfRefused};
@@ -47,8 +44,7 @@ impl<B: Bound> Bench<B> {
     {
         Bench {
             bound,
-            frame: 1,
-            table: Table::empty(),
+            kept: Kept::empty(&FrameNumbers { ticks: 1 }.judge().unwrap()),
         }
     }
 
@@ -59,19 +55,13 @@ impl<B: Bound> Bench<B> {
         &self.bound
     }
 
-    /// The frame, in ticks.
-    pub fn frame(&self) -> u32
-        ensures { result ≡ self.now.book.frame }
+    /// The frame, and the rows that stand, in rank order: at most 32, all on the frame.
+    pub fn table(&self) -> &Table
+        ensures answered { result.now ≡ self.now.book }
+        ensures stand { IsJudged self.now.book }
     {
-        self.frame
-    }
-
-    /// The rows that stand, in rank order, their numbers in ticks: at most 32, all on the frame.
-    pub fn rows(&self) -> &[Row]
-        ensures answered { result.now ≡ self.now.book.rows }
-        ensures stand { CanBeCounted most_rows self.now.book.frame result.now }
-    {
-        &self.table.rows[..self.table.count]
+        let _rows = self.kept.table.rows();
+        &self.kept.table
     }
 
     /// The findings of the rows, in rank order (docs/RULES.md, The bench): those of a survey. All meet.
@@ -81,26 +71,24 @@ impl<B: Bound> Bench<B> {
             ≡ findings_of (B.meaning self.now.bound) self.now.book.frame self.now.book.rows }
         ensures meet { AllPass is_met self.now.findings }
     {
-        &self.table.findings[..self.table.count]
+        self.kept.findings.as_slice()
     }
 
-    /// Sets the frame, in ticks (docs/RULES.md, The bench).
+    /// Sets the frame, its length in ticks (docs/RULES.md, The bench).
     ///
-    /// Refused, each at 0, with 1, bad frame, for a frame of 0 or above the horizon; 2, standing rows,
+    /// Refused, each at 0, with 1, bad frame, for a length of 0 or above the horizon; 2, standing rows,
     /// while a row stands (docs/REFUSALS.md). A refused call leaves the bench as it was.
-    pub fn set_frame(&mut self, frame: u32) -> Result<(), Fault>
+    pub fn set_frame(&mut self, frame: FrameNumbers) -> Result<(), Fault>
         ensures does { Does (B.meaning self.old.bound) (Call.Frame frame)
             self.old self.new (as_done result) }
         ensures refused { OnErr result (self.new ≡ self.old) }
     {
-        let rows_stand = self.table.count > 0;
-        if !is_frame(frame) {
-            return Err(Refusal::BadFrame.at(0));
-        }
+        let rows_stand = self.kept.table.len() > 0;
+        let frame = frame.judge()?;
         if rows_stand {
             return Err(Refusal::StandingRows.at(0));
         }
-        self.frame = frame;
+        self.kept = Kept::empty(&frame);
         Ok(())
     }
 
@@ -116,18 +104,17 @@ impl<B: Bound> Bench<B> {
             self.old self.new (as_done result) }
         ensures refused { OnErr result (self.new ≡ self.old) }
     {
-        let row = numbers.judge_on(self.frame, 0)?;
-        if self.table.count == MOST_ROWS {
+        let row = numbers.judge_on(self.kept.table.frame(), 0)?;
+        let count = self.kept.table.len();
+        if count == MOST_ROWS {
             return Err(Refusal::FullTable.at(0));
         }
-        if rank == 0 || rank > self.table.count + 1 {
-            return Err(Refusal::NoRank.at(0));
-        }
-        let table = self.table.with_row(&self.bound, self.frame, rank, row);
-        if let Some(place) = table.first_miss() {
+        check_rank(count + 1, rank)?;
+        let kept = self.kept.with_row(&self.bound, rank, row);
+        if let Some(place) = kept.first_miss() {
             return Err(Refusal::Overload.at(place as u32 + 1));
         }
-        self.table = table;
+        self.kept = kept;
         Ok(())
     }
 
@@ -140,10 +127,8 @@ impl<B: Bound> Bench<B> {
             self.old self.new (as_done result) }
         ensures refused { OnErr result (self.new ≡ self.old) }
     {
-        if rank == 0 || rank > self.table.count {
-            return Err(Refusal::NoRank.at(0));
-        }
-        self.table = self.table.without_row(&self.bound, self.frame, rank);
+        check_rank(self.kept.table.len(), rank)?;
+        self.kept = self.kept.without_row(&self.bound, rank);
         Ok(())
     }
 
@@ -154,14 +139,13 @@ impl<B: Bound> Bench<B> {
     pub fn inquire(&self, rank: usize) -> Result<(Row, Finding), Fault>
         ensures does { Does (B.meaning self.now.bound) (Call.Inquire rank)
             self.now self.now (as_found result) }
-        ensures stand { CanBeCounted most_rows self.now.book.frame self.now.book.rows }
+        ensures stand { IsJudged self.now.book }
         ensures meet { AllPass is_met
             (findings_of (B.meaning self.now.bound) self.now.book.frame self.now.book.rows) }
     {
-        if rank == 0 || rank > self.table.count {
-            return Err(Refusal::NoRank.at(0));
-        }
-        Ok((self.table.rows[rank - 1], self.table.findings[rank - 1]))
+        let rows = self.kept.table.rows();
+        check_rank(rows.len(), rank)?;
+        Ok((rows[rank - 1], self.kept.findings.as_slice()[rank - 1]))
     }
 
     /// Makes a call that is given as a value, and replies as that call does: one of the four above.

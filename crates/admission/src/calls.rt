@@ -1,13 +1,13 @@
 // The calls that a bench takes, as values, and what it replies.
 ghost use Rattle.std.specs.Prelude.{◌≡◌};
 
-use rows::{Fault, Finding, Numbers, Row};
+use rows::{Fault, Finding, FrameNumbers, Numbers, Row};
 
 /// A call to a bench (docs/RULES.md, The bench). Ranks count from 1, the highest priority.
 #[derive(Clone, Copy, PartialEq, Eq, Debug)]
 pub enum Call {
     /// Set the frame, while no row stands.
-    Frame(u32),
+    Frame(FrameNumbers),
     /// Make a row of four numbers, in ticks, and put it in at a rank.
     Admit(usize, Numbers),
     /// Take the row at a rank out.

@@ -1,18 +1,17 @@
-// The rows of a bench with their findings, and how both are kept when a row comes or goes.
-ghost use Rattle.std.specs.Prelude.{IsTrue, ◌≡◌, ◌+◌, ◌-◌, ◌<◌, ◌≤◌, map, length, drop, position};
+// A table with the finding of each of its rows, and how both are kept when a row comes or goes.
+ghost use Rattle.std.specs.Prelude.{IsTrue, ◌≡◌, ◌+◌, ◌-◌, ◌<◌, ◌≤◌, [], ◌∷◌, ◌++◌, map, length, take, position};
 ghost use Rattle.std.specs.List.{insert, remove};
+ghost use Rattle.rows.specs.Books.{book};
 ghost use Rattle.rows.specs.Counting.{is_on_frame};
-ghost use Rattle.rows.specs.Lists.{written};
 ghost use Rattle.rows.specs.Times.{most_rows};
 ghost use Rattle.rows.specs.Found.{tells, is_miss};
-ghost use Rattle.findings.specs.Countable.{CanBeCounted};
 ghost use Rattle.findings.specs.Tables.{findings_of};
-ghost use Rattle.admission.specs.Benches.{IsCounted, table_rows, table_findings};
+ghost use Rattle.admission.specs.Benches.{IsCounted, kept_findings};
 
-use crate::edits::{put_in, take_out};
+use arrayvec::ArrayVec;
 use bounds::Bound;
-use findings::{find, recount};
-use rows::{Finding, MOST_ROWS, Row, Verdict};
+use findings::recount;
+use rows::{Finding, Frame, MOST_ROWS, Row, Table, Verdict, put_in, take_out};
 
 // Whether a finding says that its row misses.
 fn is_miss(finding: &Finding) -> bool
@@ -28,99 +27,116 @@ fn first_miss(findings: &[Finding]) -> Option<usize>
     findings.iter().position(is_miss)
 }
 
-// Counts the rows from a place on anew, and puts their findings into the list, each at its row's
-// place. Rows that stand on the frame and are few enough are counted without a refusal.
-fn count_from<B: Bound>(bound: &B, frame: u32, rows: &[Row], from: usize, list: &mut [Finding])
-    requires countable { CanBeCounted most_rows frame rows.now }
-    requires room { length rows.now ≤ length list.old }
-    ensures { map tells list.new
-        ≡ written (map tells list.old) from
-        (drop from (findings_of (B.meaning bound.now) frame rows.now)) }
+// The same findings once more.
+fn copied(findings: &ArrayVec<Finding, MOST_ROWS>) -> ArrayVec<Finding, MOST_ROWS>
+    ensures { result.items ≡ findings.now.items }
 {
-    recount(bound, frame, rows, from, list).unwrap();
+    let mut copy = ArrayVec::new();
+    copy.try_extend_from_slice(findings.as_slice()).unwrap();
+    copy
 }
 
-// Rows in rank order and the finding of each, in the first places of two lists.
-#[derive(Clone, Copy, PartialEq, Eq, Debug)]
-pub(crate) struct Table {
-    pub(crate) count: usize,
-    pub(crate) rows: [Row; MOST_ROWS],
-    pub(crate) findings: [Finding; MOST_ROWS],
+// The same findings, with a place for one more put in at a rank.
+fn one_more(findings: &ArrayVec<Finding, MOST_ROWS>, rank: usize) -> ArrayVec<Finding, MOST_ROWS>
+    requires room { length findings.now.items < most_rows }
+    requires low { 1 ≤ rank }
+    requires high { rank ≤ length findings.now.items + 1 }
+    ensures size { length result.items ≡ length findings.now.items + 1 }
+    ensures before { take (rank - 1) result.items ≡ take (rank - 1) findings.now.items }
+{
+    let mut more = copied(findings);
+    more.push(Finding::default());
+    put_in(more.as_mut_slice(), rank, Finding::default()).unwrap();
+    more
 }
 
-impl Table {
+// The same findings without the one at a rank.
+fn one_less(findings: &ArrayVec<Finding, MOST_ROWS>, rank: usize) -> ArrayVec<Finding, MOST_ROWS>
+    requires low { 1 ≤ rank }
+    requires high { rank ≤ length findings.now.items }
+    ensures { result.items ≡ remove findings.now.items (rank - 1) }
+{
+    let mut less = copied(findings);
+    let count = less.len();
+    take_out(less.as_mut_slice(), rank).unwrap();
+    less.truncate(count - 1);
+    less
+}
+
+// Counts the rows of a table from a place on anew. The findings of those before it are known.
+fn count_from<B: Bound>(
+    bound: &B,
+    table: &Table,
+    from: usize,
+    findings: &mut ArrayVec<Finding, MOST_ROWS>,
+)
+    requires size { length findings.old.items ≡ length table.now.rows }
+    requires known { take from (map tells findings.old.items)
+        ≡ take from (findings_of (B.meaning bound.now) table.now.frame table.now.rows) }
+    ensures { map tells findings.new.items
+        ≡ findings_of (B.meaning bound.now) table.now.frame table.now.rows }
+{
+    recount(bound, table, from, findings.as_mut_slice()).unwrap();
+}
+
+// A table, and the finding of each of its rows.
+#[derive(Debug, Drop)]
+pub(crate) struct Kept {
+    pub(crate) table: Table,
+    pub(crate) findings: ArrayVec<Finding, MOST_ROWS>,
+}
+
+impl Kept {
     // A table of no row.
-    pub(crate) fn empty() -> Table
-        ensures { result.count ≡ 0 }
+    pub(crate) fn empty(frame: &Frame) -> Kept
+        ensures table { result.table ≡ book frame.now [] }
+        ensures findings { kept_findings result ≡ [] }
     {
-        let unused = Row {
-            work: 1,
-            deadline: 1,
-            period: 1,
-            jitter: 0,
-        };
-        let uncounted = Finding {
-            verdict: Verdict::Misses,
-            points: 0,
-        };
-        Table {
-            count: 0,
-            rows: [unused; MOST_ROWS],
-            findings: [uncounted; MOST_ROWS],
+        Kept {
+            table: Table::new(frame),
+            findings: ArrayVec::new(),
         }
     }
 
     // The place of the first row that misses.
     #[tactic(auto, using(rows::proofs::Places::position_map))]
     pub(crate) fn first_miss(&self) -> Option<usize>
-        requires { self.now.count ≤ most_rows }
-        ensures { result ≡ position is_miss (table_findings self.now) }
+        ensures { result ≡ position is_miss (kept_findings self.now) }
     {
-        first_miss(&self.findings[..self.count])
+        first_miss(self.findings.as_slice())
     }
 
-    // The table with a row put in at a rank: the row is counted, and the rows below it anew.
-    pub(crate) fn with_row<B: Bound>(&self, bound: &B, frame: u32, rank: usize, row: Row) -> Table
-        requires counted { IsCounted (B.meaning bound.now) frame self.now }
-        requires room { self.now.count < most_rows }
+    // The table with a row put in at a rank: it is counted, and the rows below it anew.
+    pub(crate) fn with_row<B: Bound>(&self, bound: &B, rank: usize, row: Row) -> Kept
+        requires counted { IsCounted (B.meaning bound.now) self.now }
+        requires room { length self.now.table.rows < most_rows }
         requires low { 1 ≤ rank }
-        requires high { rank ≤ self.now.count + 1 }
-        requires on { IsTrue (is_on_frame frame row) }
-        ensures counted { IsCounted (B.meaning bound.now) frame result }
-        ensures rows { table_rows result ≡ insert (table_rows self.now) (rank - 1) row }
+        requires high { rank ≤ length self.now.table.rows + 1 }
+        requires on { IsTrue (is_on_frame self.now.table.frame.ticks row) }
+        ensures counted { IsCounted (B.meaning bound.now) result }
+        ensures table { result.table
+            ≡ book self.now.table.frame (insert self.now.table.rows (rank - 1) row) }
     {
-        let finding = find(bound, frame, &row, &self.rows[..rank - 1]).unwrap();
-        let count = self.count + 1;
-        let mut rows = self.rows;
-        let mut findings = self.findings;
-        put_in(&mut rows[..count], rank, row);
-        put_in(&mut findings[..count], rank, finding);
-        count_from(bound, frame, &rows[..count], rank, &mut findings);
-        Table {
-            count,
-            rows,
-            findings,
-        }
+        let mut table = self.table.copy();
+        table.put_in(rank, row).unwrap();
+        let mut findings = one_more(&self.findings, rank);
+        count_from(bound, &table, rank - 1, &mut findings);
+        Kept { table, findings }
     }
 
     // The table with the row at a rank taken out: the rows that stood below it are counted anew.
-    pub(crate) fn without_row<B: Bound>(&self, bound: &B, frame: u32, rank: usize) -> Table
-        requires counted { IsCounted (B.meaning bound.now) frame self.now }
+    pub(crate) fn without_row<B: Bound>(&self, bound: &B, rank: usize) -> Kept
+        requires counted { IsCounted (B.meaning bound.now) self.now }
         requires low { 1 ≤ rank }
-        requires high { rank ≤ self.now.count }
-        ensures counted { IsCounted (B.meaning bound.now) frame result }
-        ensures rows { table_rows result ≡ remove (table_rows self.now) (rank - 1) }
+        requires high { rank ≤ length self.now.table.rows }
+        ensures counted { IsCounted (B.meaning bound.now) result }
+        ensures table { result.table
+            ≡ book self.now.table.frame (remove self.now.table.rows (rank - 1)) }
     {
-        let mut rows = self.rows;
-        let mut findings = self.findings;
-        take_out(&mut rows[..self.count], rank);
-        take_out(&mut findings[..self.count], rank);
-        let count = self.count - 1;
-        count_from(bound, frame, &rows[..count], rank - 1, &mut findings);
-        Table {
-            count,
-            rows,
-            findings,
-        }
+        let mut table = self.table.copy();
+        table.take_out(rank).unwrap();
+        let mut findings = one_less(&self.findings, rank);
+        count_from(bound, &table, rank - 1, &mut findings);
+        Kept { table, findings }
     }
 }

@@ -3,7 +3,6 @@
 
 mod benches;
 mod calls;
-mod edits;
 mod keeping;
 mod playing;
 

@@ -1,6 +1,8 @@
 -- What a bound means, and when it is asked about something.
-use Rattle.std.specs.Prelude.{ℕ, Bool, ◌&&◌, nat_le}
+use Rattle.std.specs.Prelude.{ℕ, Bool, not, ◌&&◌, List, [], ◌∷◌, nat_le}
+use Rattle.rows.specs.declared.refusals.Refusal.TheVariants.{BadAccuracy}
 use Rattle.rows.specs.declared.tasks.Row.{Row}
+use Rattle.rows.specs.Answers.{Check, check}
 use Rattle.rows.specs.Times.{horizon, is_frame}
 use Rattle.rows.specs.Counting.{is_on_frame}
 
@@ -22,6 +24,10 @@ finest = 64
 -- an accuracy runs from 1 to the greatest
 abbrev pub is_accuracy : ℕ → Bool
 is_accuracy k = nat_le 1 k && nat_le k finest
+
+-- what is checked of it: bad accuracy
+abbrev pub accuracy_checks : ℕ → List Check
+accuracy_checks k = check (not (is_accuracy k)) BadAccuracy 0 ∷ []
 
 -- a bound has something to answer: the frame is one, the row stands on it, and the instant is not past the horizon
 abbrev pub is_asked : ℕ → Row → ℕ → Bool

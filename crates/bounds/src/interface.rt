@@ -71,7 +71,7 @@ pub trait Bound {
 pub fn asked(frame: u32, row: &Row, at: u32) -> bool
     ensures { result ≡ is_asked frame row.now at }
 {
-    is_frame(frame) && row.stands_on(frame) && at <= HORIZON
+    is_frame(frame) && row.divides(frame) && at <= HORIZON
 }
 
 // The exact steps in parts at an instant up to the horizon, and past that 0.

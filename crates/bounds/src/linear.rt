@@ -1,8 +1,8 @@
 // The linear tail: a few exact steps, then a straight line on or above the steps.
-ghost use Rattle.std.specs.Prelude.{◌≡◌, ◌≤◌, ◌*◌, not, [], ◌∷◌};
-ghost use Rattle.rows.specs.Answers.{answer, check, checked};
+ghost use Rattle.std.specs.Prelude.{◌≡◌, ◌≤◌, ◌*◌};
+ghost use Rattle.rows.specs.Answers.{answer, checked};
 ghost use Rattle.rows.specs.Times.{horizon};
-ghost use Rattle.bounds.specs.Meaning.{finest, is_accuracy};
+ghost use Rattle.bounds.specs.Meaning.{accuracy_checks, finest};
 
 use crate::interface::{Bound, FINEST, asked};
 use crate::releases::{mark_rises, next_rise};
@@ -23,8 +23,7 @@ impl LinearTail {
 
     /// The linear tail of accuracy k; refused with 3, bad accuracy, at 0 outside 1 to 64.
     pub fn new(accuracy: u32) -> Result<LinearTail, Fault>
-        ensures { answer accuracy_of result
-            ≡ checked (check (not (is_accuracy accuracy)) BadAccuracy 0 ∷ []) accuracy }
+        ensures { answer accuracy_of result ≡ checked (accuracy_checks accuracy) accuracy }
     {
         if accuracy == 0 || accuracy > FINEST {
             return Err(Refusal::BadAccuracy.at(0));

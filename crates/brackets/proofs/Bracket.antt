@@ -7,6 +7,7 @@ use Rattle.std.proofs.lemmas.List.Sums.{sum_by-append, sum_by-cons}
 use Rattle.std.proofs.lemmas.Bool.{le-leb, leb-true}
 use Rattle.rows.specs.declared.tasks.Row.{Row}
 use Rattle.rows.specs.Times.{horizon}
+use Rattle.rows.specs.Frames.{frame_of}
 use Rattle.rows.specs.Counting.{is_on_frame, steps, window}
 use Rattle.bounds.specs.Laws.{Laws}
 use Rattle.bounds.specs.Meaning.{Meaning, is_asked}
@@ -45,7 +46,7 @@ module _ {m : Meaning} (laws : Laws m) (h : ℕ) (r : Row) (above : List Row) (s
   exact_from_bound : is_rest (load m h r.work above) t ≡ true → is_exact_rest r above t ≡ true
   exact_from_bound rest =
       let covers = all_asked h above t stands near (λ s. h * steps s t ≤ m.amount h s t) (λ s. laws.covers h s t) in
-      sym (rests_exactly h r above stands.frame t) ∙ rests_by_less exact_steps m h r.work above t covers rest
+      sym (rests_exactly (frame_of h) r above stands.frame t) ∙ rests_by_less exact_steps m h r.work above t covers rest
 
   -- the demand by the bound is at most (k + 1) / k times the exact demand
   demand_close : m.accuracy * demand (load m h r.work above) t ≤ h * ((m.accuracy + 1) * exact_demand r above t)
@@ -67,10 +68,10 @@ module _ {m : Meaning} (laws : Laws m) (h : ℕ) (r : Row) (above : List Row) (s
 pub brackets : {m : Meaning} → Laws m → Brackets m
 unfolding first_rest exact_rest slow_rest
 brackets {m} laws h r above stands =
-    let rest = is_rest (load m h r.work above) in
-    let slow = no_later rest (is_slow_rest m.accuracy r above) (window r) (λ t _ within. bound_from_slow laws h r above stands t (window_near r t within)) in
+    let rest = is_rest (load m h.ticks r.work above) in
+    let slow = no_later rest (is_slow_rest m.accuracy r above) (window r) (λ t _ within. bound_from_slow laws h.ticks r above stands t (window_near r t within)) in
     record {
-      exact = no_later (is_exact_rest r above) rest (window r) (λ t _ within. exact_from_bound laws h r above stands t (window_near r t within));
+      exact = no_later (is_exact_rest r above) rest (window r) (λ t _ within. exact_from_bound laws h.ticks r above stands t (window_near r t within));
       slow = slow;
       misses = none_later _ _ slow;
     }
@@ -79,8 +80,8 @@ brackets {m} laws h r above stands =
 pub fewer_above : (m : Meaning) → FewerIsNoLater m
 unfolding first_rest
 fewer_above m h r x xs ys =
-    no_later (is_rest (load m h r.work (xs ++ ys))) (is_rest (load m h r.work (xs ++ x ∷ ys))) (window r)
+    no_later (is_rest (load m h.ticks r.work (xs ++ ys))) (is_rest (load m h.ticks r.work (xs ++ x ∷ ys))) (window r)
     (λ t _ _ rest.
-    let f : Row → ℕ = λ s. m.amount h s t in
-    let served = leb-true (demand (load m h r.work (xs ++ x ∷ ys)) t) (h * t) rest in
-    le-leb (demand (load m h r.work (xs ++ ys)) t) (h * t) (omega (arith, sum_by-append f xs ys, sum_by-append f xs (x ∷ ys), sum_by-cons f x ys)))
+    let f : Row → ℕ = λ s. m.amount h.ticks s t in
+    let served = leb-true (demand (load m h.ticks r.work (xs ++ x ∷ ys)) t) (h.ticks * t) rest in
+    le-leb (demand (load m h.ticks r.work (xs ++ ys)) t) (h.ticks * t) (omega (arith, sum_by-append f xs ys, sum_by-append f xs (x ∷ ys), sum_by-cons f x ys)))

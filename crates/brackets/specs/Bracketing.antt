@@ -1,6 +1,7 @@
 -- First rests compared: in exact steps, by a bound, and in exact steps on a slower processor.
 use Rattle.std.specs.Prelude.{◌≡◌, ℕ, ◌+◌, ◌*◌, ◌≤◌, Bool, List, ◌∷◌, ◌++◌, Some, None, Option, nat_le}
 use Rattle.std.specs.List.Sorted.{IsPermutation}
+use Rattle.rows.specs.declared.frames.FrameNumbers.{FrameNumbers}
 use Rattle.rows.specs.declared.tasks.Row.{Row}
 use Rattle.rows.specs.Counting.{window}
 use Rattle.bounds.specs.Instants.{least}
@@ -38,24 +39,24 @@ pub record LiesBetween (k : ℕ) (r : Row) (above : List Row) (bounded : Option 
 -- so does every first rest by the bound, of any row below any others that stand on a frame
 abbrev pub Brackets : Meaning → Type 0
 Brackets m =
-    (h : ℕ) (r : Row) (above : List Row) → StandOn h above
+    (h : FrameNumbers) (r : Row) (above : List Row) → StandOn h.ticks above
     → LiesBetween m.accuracy r above (row_finding m h r above).rest
 
 -- what meets by a linear tail meets by every more accurate one, and rests no later
 abbrev pub FinerIsNoLater : Type 0
 FinerIsNoLater =
-    (k k' h : ℕ) (r : Row) (above : List Row) → 1 ≤ k → k ≤ k' → StandOn h above
+    (k k' : ℕ) (h : FrameNumbers) (r : Row) (above : List Row) → 1 ≤ k → k ≤ k' → StandOn h.ticks above
     → IsNoLater (row_finding (linear_tail k') h r above).rest
     (row_finding (linear_tail k) h r above).rest
 
 -- a row that meets still meets, and rests no later, with a row above it taken away
 abbrev pub FewerIsNoLater : Meaning → Type 0
 FewerIsNoLater m =
-    (h : ℕ) (r x : Row) (xs ys : List Row)
+    (h : FrameNumbers) (r x : Row) (xs ys : List Row)
     → IsNoLater (row_finding m h r (xs ++ ys)).rest (row_finding m h r (xs ++ x ∷ ys)).rest
 
 -- the order of the rows above does not matter to a finding
 abbrev pub OrderIsFree : Meaning → Type 0
 OrderIsFree m =
-    (h : ℕ) (r : Row) (xs ys : List Row) → IsPermutation xs ys
+    (h : FrameNumbers) (r : Row) (xs ys : List Row) → IsPermutation xs ys
     → row_finding m h r xs ≡ row_finding m h r ys

@@ -1,12 +1,13 @@
 -- The first rest on a slower processor, asked for: when that is refused, and what it says.
-use Rattle.std.specs.Prelude.{◌≡◌, ℕ, ◌≤◌, false, not, List, [], ◌∷◌, length, Option, MatchOption, nat_lt}
-use Rattle.rows.specs.declared.refusals.Refusal.TheVariants.{BadAccuracy, FullTable}
+use Rattle.std.specs.Prelude.{◌≡◌, ℕ, ◌≤◌, false, List, [], ◌∷◌, ◌++◌, length, Option, MatchOption, nat_lt}
+use Rattle.rows.specs.declared.refusals.Refusal.TheVariants.{FullTable}
+use Rattle.rows.specs.declared.frames.FrameNumbers.{FrameNumbers}
 use Rattle.rows.specs.declared.tasks.Row.{Row}
 use Rattle.rows.specs.Answers.{Check, check}
 use Rattle.rows.specs.Counting.{window}
 use Rattle.bounds.specs.Instants.{IsFirst}
 use Rattle.bounds.specs.Laws.{Laws}
-use Rattle.bounds.specs.Meaning.{Meaning, is_accuracy}
+use Rattle.bounds.specs.Meaning.{Meaning, accuracy_checks}
 use Rattle.findings.specs.Asking.{most_above}
 use Rattle.findings.specs.Countable.{StandOn}
 use Rattle.findings.specs.Findings.{row_finding}
@@ -15,7 +16,7 @@ use Rattle.brackets.specs.Bracketing.{IsNoLater, is_slow_rest}
 -- what is checked of the question, in order: bad accuracy; full table
 abbrev pub slow_checks : ℕ → List Row → List Check
 slow_checks k above =
-    check (not (is_accuracy k)) BadAccuracy 0 ∷ check (nat_lt most_above (length above)) FullTable 0 ∷ []
+    accuracy_checks k ++ check (nat_lt most_above (length above)) FullTable 0 ∷ []
 
 -- a first rest at speed k / (k + 1) is an instant from 1 to the window at which the row rests at
 -- that speed, and no earlier one is; without one, the row rests at none of them
@@ -28,5 +29,5 @@ IsFirstSlowRest k r above o =
 -- on, the row rests no later than o
 abbrev pub BoundsAreNoLater : ℕ → Row → List Row → Option ℕ → Type 0
 BoundsAreNoLater k r above o =
-    (m : Meaning) (h : ℕ) → Laws m → m.accuracy ≡ k → StandOn h above
+    (m : Meaning) (h : FrameNumbers) → Laws m → m.accuracy ≡ k → StandOn h.ticks above
     → IsNoLater (row_finding m h r above).rest o

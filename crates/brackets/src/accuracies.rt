@@ -8,25 +8,25 @@ ghost use Rattle.brackets.specs.Bracketing.{FinerIsNoLater};
 ghost use Rattle.brackets.specs.Counting.{has_rest_by, MeetsFrom};
 
 use bounds::{FINEST, LinearTail};
-use findings::{Verdict, find};
-use rows::{Fault, Row};
+use findings::find;
+use rows::{Fault, Row, Table, Verdict};
 
-/// The least accuracy of a linear tail, from 1 to 64, by which a row below others meets, if there
+/// The least accuracy of a linear tail, from 1 to 64, by which a row below a table meets, if there
 /// is one (docs/RULES.md, How far two counts part).
 ///
-/// Refused as `findings::find` is: 1, bad frame, at 0; 9, full table, at 0; 8, off frame, at the
-/// smallest rank that is off the frame.
+/// Refused as `findings::find` is: 9, full table, at 0; 8, off frame, at the rank below the table's
+/// last.
 #[tactic(auto, using(crate::proofs::Tails::finer_tails))]
-pub fn least_accuracy(frame: u32, row: &Row, above: &[Row]) -> Result<Option<u32>, Fault>
+pub fn least_accuracy(row: &Row, above: &Table) -> Result<Option<u32>, Fault>
     ensures answered { answer (λ o. o) result
-        ≡ checked (question_checks frame row.now above.now)
-        (least (has_rest_by frame row.now above.now) finest 1) }
-    ensures from { IfOk result (λ o. MeetsFrom frame row.now above.now o) }
+        ≡ checked (question_checks row.now above.now)
+        (least (has_rest_by above.now.frame row.now above.now.rows) finest 1) }
+    ensures from { IfOk result (λ o. MeetsFrom above.now.frame row.now above.now.rows o) }
     ensures finer { FinerIsNoLater }
 {
     for accuracy in 1..=FINEST {
         let tail = LinearTail::new(accuracy)?;
-        let finding = find(&tail, frame, row, above)?;
+        let finding = find(&tail, row, above)?;
         if let Verdict::Meets(_) = finding.verdict {
             return Ok(Some(accuracy));
         }

@@ -8,8 +8,8 @@ ghost use Rattle.brackets.specs.Bracketing.{OrderIsFree, LiesBetween, Brackets, 
 ghost use Rattle.brackets.specs.Counting.{both_found, gap, row_counts};
 
 use bounds::{Bound, ExactSteps};
-use findings::{Finding, Verdict, find};
-use rows::{Fault, Row};
+use findings::find;
+use rows::{Fault, Finding, Row, Table, Verdict};
 
 /// A row counted twice: in exact steps and by a bound.
 #[derive(Clone, Copy, PartialEq, Eq, Debug)]
@@ -31,31 +31,26 @@ impl Counts {
     }
 }
 
-/// The findings about a row below others, in exact steps and by a bound (docs/RULES.md, How far two
+/// The findings about a row below a table, in exact steps and by a bound (docs/RULES.md, How far two
 /// counts part).
 ///
-/// Refused as `findings::find` is: 1, bad frame, at 0; 9, full table, at 0; 8, off frame, at the
-/// smallest rank that is off the frame.
+/// Refused as `findings::find` is: 9, full table, at 0; 8, off frame, at the rank below the table's
+/// last.
 #[tactic(auto, using(crate::proofs::TwoCounts::both_told))]
-pub fn count_both<B: Bound>(
-    bound: &B,
-    frame: u32,
-    row: &Row,
-    above: &[Row],
-) -> Result<Counts, Fault>
+pub fn count_both<B: Bound>(bound: &B, row: &Row, above: &Table) -> Result<Counts, Fault>
     ensures answered { answer both_found result
-        ≡ checked (question_checks frame row.now above.now)
-        (row_counts (B.meaning bound.now) frame row.now above.now) }
+        ≡ checked (question_checks row.now above.now)
+        (row_counts (B.meaning bound.now) above.now.frame row.now above.now.rows) }
     ensures exactly { IfOk result
-        (λ c. verdict_rest c.exact.verdict ≡ exact_rest row.now above.now) }
+        (λ c. verdict_rest c.exact.verdict ≡ exact_rest row.now above.now.rows) }
     ensures between { IfOk result
-        (λ c. LiesBetween (B.meaning bound.now).accuracy row.now above.now
+        (λ c. LiesBetween (B.meaning bound.now).accuracy row.now above.now.rows
         (verdict_rest c.bounded.verdict)) }
     ensures brackets { Brackets (B.meaning bound.now) }
     ensures fewer { FewerIsNoLater (B.meaning bound.now) }
     ensures order { OrderIsFree (B.meaning bound.now) }
 {
-    let exact = find(&ExactSteps, frame, row, above)?;
-    let bounded = find(bound, frame, row, above)?;
+    let exact = find(&ExactSteps, row, above)?;
+    let bounded = find(bound, row, above)?;
     Ok(Counts { exact, bounded })
 }

@@ -12,17 +12,17 @@ ghost use Rattle.findings.specs.Loads.{load_of};
 
 use crate::loads::Load;
 use bounds::Bound;
-use rows::Row;
+use rows::{Frame, Row};
 
 impl<'a, B: Bound> Load<'a, B> {
     // The load of some own work below rows that passed their checks.
-    pub(crate) fn new(bound: &'a B, frame: u32, own: u32, above: &'a [Row]) -> Self
-        requires { CanBeCounted most_above frame above.now }
-        ensures { load_of result ≡ load (B.meaning bound.now) frame own above.now }
+    pub(crate) fn new(bound: &'a B, frame: &Frame, own: u32, above: &'a [Row]) -> Self
+        requires { CanBeCounted most_above frame.now.ticks above.now }
+        ensures { load_of result ≡ load (B.meaning bound.now) frame.now.ticks own above.now }
     {
         Load {
             bound,
-            frame,
+            frame: frame.ticks(),
             own,
             above,
         }

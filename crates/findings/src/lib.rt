@@ -5,12 +5,11 @@ mod asking;
 mod counting;
 mod demands;
 mod flags;
-mod frames;
 mod loads;
 mod recounting;
 mod searching;
 mod skipping;
 
 pub use asking::{find, response_time};
-pub use recounting::{check_size, recount};
+pub use recounting::recount;
 pub use rows::{Finding, Verdict};

@@ -13,11 +13,22 @@ pub enum Verdict {
     Misses,
 }
 
-/// What is found about a row: the verdict, and how many points were tested to come to it.
+/// What is found about a row: the verdict, and the points tested: how many test points there are up to
+/// the first at which the row rests, or in all where it misses (docs/RULES.md, Findings).
 #[derive(Clone, Copy, PartialEq, Eq, Debug)]
 pub struct Finding {
     pub verdict: Verdict,
     pub points: u32,
+}
+
+// What a place of a list holds that nothing has been counted for.
+impl Default for Finding {
+    fn default() -> Finding {
+        Finding {
+            verdict: Verdict::Misses,
+            points: 0,
+        }
+    }
 }
 
 impl Verdict {

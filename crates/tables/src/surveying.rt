@@ -5,24 +5,35 @@ ghost use Rattle.rows.specs.Judging.{plain, rows_of};
 ghost use Rattle.rows.specs.Lists.{written, StaysOutside};
 ghost use Rattle.rows.specs.Found.{tells};
 ghost use Rattle.findings.specs.Tables.{findings_of, TableSays};
-ghost use Rattle.tables.specs.Surveys.{survey_checks};
+ghost use Rattle.tables.specs.Surveys.{size_checks, survey_checks};
 
-use crate::judgement::{check_numbers, make_rows};
 use bounds::Bound;
-use findings::{check_size, recount};
-use rows::{Fault, Finding, Numbers};
+use findings::recount;
+use rows::{Fault, Finding, FrameNumbers, MOST_ROWS, Numbers, Refusal, Table};
 
-/// The survey of a table (docs/RULES.md, Surveys): judges every place and puts the findings of the
-/// rows into the list, in rank order; the places past the last row stay. Answers how many rows
-/// there are.
+// Whether a table of so many rows can be counted into a list of so many places.
+fn check_size(rows: usize, places: usize) -> Result<(), Fault>
+    ensures { answer (λ u. u) result ≡ checked (size_checks rows places) tt }
+{
+    if rows > MOST_ROWS {
+        return Err(Refusal::FullTable.at(0));
+    }
+    if places < rows {
+        return Err(Refusal::ShortList.at(0));
+    }
+    Ok(())
+}
+
+/// The survey of a table (docs/RULES.md, Surveys): judges the frame and every place, and puts the
+/// findings of the rows into the list, in rank order; the places past the last row stay. Answers how
+/// many rows there are.
 ///
-/// Refused as `findings::check_size` is, with 1, bad frame, 9, full table, and 12, short list, at
-/// 0; then with 4, idle row, 5, no window, 6, late deadline, 7, long period, and 8, off frame, at
-/// the smallest rank that is so (docs/REFUSALS.md). A refused call leaves the list as it was.
-#[tactic(auto, using(crate::proofs::Ordered::numbers_refused, crate::proofs::Ordered::rows_refused, crate::proofs::Ordered::rows_counted))]
+/// Refused, each at 0, with 1, bad frame, 9, full table, and 12, short list; then with 4, idle row,
+/// 5, no window, 6, late deadline, 7, long period, and 8, off frame, at the smallest rank that is so
+/// (docs/REFUSALS.md). A refused call leaves the list as it was.
 pub fn survey<B: Bound>(
     bound: &B,
-    frame: u32,
+    frame: FrameNumbers,
     table: &[Numbers],
     list: &mut [Finding],
 ) -> Result<usize, Fault>
@@ -36,9 +47,9 @@ pub fn survey<B: Bound>(
     ensures rows { OnOk result (map plain (rows_of table.now) ≡ table.now) }
     ensures says { OnOk result (TableSays (B.meaning bound.now) frame (rows_of table.now)) }
 {
-    check_size(frame, table.len(), list.len())?;
-    check_numbers(table)?;
-    let rows = make_rows(table);
-    recount(bound, frame, &rows[0..table.len()], 0, list)?;
+    let frame = frame.judge()?;
+    check_size(table.len(), list.len())?;
+    let judged = Table::judge(&frame, table)?;
+    recount(bound, &judged, 0, list)?;
     Ok(table.len())
 }
