@@ -1,15 +1,16 @@
 -- What a call of the code does, by what it found on its way.
-use Rattle.std.proofs.Common.{◌≡◌, ℕ, zero, suc, ◌+◌, ◌-◌, ◌<◌, ◌≤◌, Bool, true, false, not, leb, List, [], ◌∷◌, ◌++◌, length, get_or, take, drop, Some, None, refl, sym, ap, ◌∙◌, subst, arith, position}
+use Rattle.std.proofs.Common.{◌≡◌, ◌≢◌, ℕ, zero, suc, ◌+◌, ◌-◌, ◌<◌, ◌≤◌, Bool, true, false, not, leb, List, [], ◌∷◌, ◌++◌, length, get_or, take, drop, Some, None, refl, sym, ap, ◌∙◌, subst, arith, position}
 use Rattle.std.specs.List.{All, AllPass, insert, remove}
 use Rattle.std.specs.Option.{option_map, unwrap_or}
 use Rattle.std.proofs.lemmas.Bool.{and_from, le-leb, lt-leb, not-false}
 use Rattle.std.proofs.lemmas.List.{get_or-map, length-map}
 use Rattle.std.proofs.lemmas.List.Elements.{All-weaker}
+use Rattle.rows.specs.declared.frames.FrameNumbers.{FrameNumbers}
 use Rattle.rows.specs.declared.refusals.Fault.{Fault}
 use Rattle.rows.specs.declared.refusals.Refusal.TheVariants.{Overload, FullTable, NoRank}
 use Rattle.rows.specs.declared.tasks.Numbers.{Numbers}
 use Rattle.rows.specs.declared.tasks.Row.{Row}
-use Rattle.rows.specs.Answers.{check, check_each, checked, gives, refuses, refuses_at}
+use Rattle.rows.specs.Answers.{check, check_each, checked, gives, refuses, refuses_at, Passes}
 use Rattle.rows.specs.Judging.{plain, rows_of, frame_flaws, flaw_checks}
 use Rattle.rows.specs.Lists.{at_rank, first_of}
 use Rattle.rows.specs.Times.{most_rows}
@@ -26,7 +27,8 @@ use Rattle.admission.specs.declared.calls.Call.TheVariants.{Admit, Inquire}
 use Rattle.admission.specs.declared.calls.Reply.{Reply}
 use Rattle.admission.specs.declared.calls.Reply.TheVariants.{Done, Refused}
 use Rattle.rows.specs.Books.{Book, IsJudged, book}
-use Rattle.rows.specs.Ranks.{is_rank}
+use Rattle.rows.specs.Ranks.{is_rank, rank_checks}
+use Rattle.rows.proofs.Ranked.{ranked}
 use Rattle.findings.proofs.OnFrame.{judged_stand}
 use Rattle.admission.specs.declared.keeping.Kept.{Kept}
 use Rattle.admission.specs.Benches.{Held, bench, Does, IsCounted, Keeps, kept_findings}
@@ -139,9 +141,23 @@ module _ (m : Meaning) (k : Kept) (keeps : Keeps m k) (rank : ℕ) (low : 1 ≤ 
       sym (passes_on (not (is_rank (length rows) rank)) NoRank 0 (gives (told m k.table (Inquire rank))) (is_within (length rows) rank low high)
       ∙ ap gives (tells_so ∙ ap (row_found (plain r)) (sym finding_is)))
 
+-- what an admit knows when it comes to count: the newcomer is a row on the frame, and there is a place at the rank
+pub record Enters (k : Kept) (rank : ℕ) (n : Numbers) (r : Row) : Type 0 where
+  pub judged : gives (plain r) ≡ checked (flaw_checks (frame_flaws k.table.frame) n 0) n
+  pub room : length k.table.rows + 1 ≤ most_rows
+  pub ranked_so : (1 ≤ rank) × (rank ≤ length k.table.rows + 1)
+
+-- it comes from the checks made
+pub entering : (k : Kept) (rank : ℕ) (n : Numbers) (r : Row) (h : FrameNumbers) (count : ℕ) → h ≡ k.table.frame → gives (plain r) ≡ checked (flaw_checks (frame_flaws h) n 0) n
+    → count ≡ length k.table.rows → IsJudged k.table → count ≢ most_rows → Passes (rank_checks (count + 1) rank) → Enters k rank n r
+entering k rank n r h count frame judged many table apart passes = record {
+  judged = subst (λ h. gives (plain r) ≡ checked (flaw_checks (frame_flaws h) n 0) n) frame judged;
+  room = omega (arith, many, table.few, apart);
+  ranked_so = let is = ranked (count + 1) rank passes in (is.0, omega (arith, is.1, many));
+}
+
 -- a table with a row of four numbers put in at a rank
-module _ {B : Type 0} (m : Meaning) (bound : B) (k : Kept) (keeps : Keeps m k) (rank : ℕ) (n : Numbers) (r : Row)
-    (judged : gives (plain r) ≡ checked (flaw_checks (frame_flaws k.table.frame) n 0) n) (room : length k.table.rows + 1 ≤ most_rows) (low : 1 ≤ rank) (high : rank ≤ length k.table.rows + 1)
+module _ {B : Type 0} (m : Meaning) (bound : B) (k : Kept) (keeps : Keeps m k) (rank : ℕ) (n : Numbers) (r : Row) (enters : Enters k rank n r)
     (new : Kept) (counted : IsCounted m new) (with : new.table ≡ book k.table.frame (insert k.table.rows (rank - 1) r)) where
   -- is kept where no row misses
   pub kept_with : position is_miss (kept_findings new) ≡ None → Keeps m new
@@ -155,13 +171,13 @@ module _ {B : Type 0} (m : Meaning) (bound : B) (k : Kept) (keeps : Keeps m k) (
   pub admits_so : position is_miss (kept_findings new) ≡ None → Does m (Admit rank n) (seen bound k) (seen bound new) Done
   admits_so none =
       does_so m (Admit rank n) (seen bound k) (seen bound new) Done done
-      (admits m k.table rank n r judged room low high (insert k.table.rows (rank - 1) r) refl (ap (position is_miss) (sym found_with) ∙ none))
+      (admits m k.table rank n r enters.judged enters.room enters.ranked_so.0 enters.ranked_so.1 (insert k.table.rows (rank - 1) r) refl (ap (position is_miss) (sym found_with) ∙ none))
       refl
-      (kept_is m bound new (kept_with none) ∙ ap (bench m bound) (with ∙ ap (book k.table.frame) (sym (newcomer_is m k.table rank n r judged))))
+      (kept_is m bound new (kept_with none) ∙ ap (bench m bound) (with ∙ ap (book k.table.frame) (sym (newcomer_is m k.table rank n r enters.judged))))
 
   -- and where one misses, it is refused for the first that does
   pub overloads_so : (i : ℕ) → position is_miss (kept_findings new) ≡ Some i
       → Does m (Admit rank n) (seen bound k) (seen bound k) (Refused (record { refusal = Overload; at = i + 1 }))
   overloads_so i some =
       refuses_so m (Admit rank n) (seen bound k) (record { refusal = Overload; at = i + 1 }) (kept_is m bound k keeps)
-      (overloads m k.table rank n r judged room low high (insert k.table.rows (rank - 1) r) refl i (ap (position is_miss) (sym found_with) ∙ some))
+      (overloads m k.table rank n r enters.judged enters.room enters.ranked_so.0 enters.ranked_so.1 (insert k.table.rows (rank - 1) r) refl i (ap (position is_miss) (sym found_with) ∙ some))

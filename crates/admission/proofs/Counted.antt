@@ -32,7 +32,7 @@ module _ (m : Meaning) (h : FrameNumbers) where
   same_front xs ys k same = front_findings k [] xs ∙ ap (findings_of m h) same ∙ sym (front_findings k [] ys)
 
   -- what is kept of rows is as long as they are
-  many_kept : (rows : List Row) (kept : List Finding) → map tells kept ≡ findings_of m h rows → length kept ≡ length rows
+  pub many_kept : (rows : List Row) (kept : List Finding) → map tells kept ≡ findings_of m h rows → length kept ≡ length rows
   many_kept rows kept counted = sym (length-map kept tells) ∙ ap length counted ∙ length_findings_below m h [] rows
 
   -- with a row put in, the findings before it are known where those of the other rows are

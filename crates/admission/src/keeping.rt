@@ -70,6 +70,7 @@ fn count_from<B: Bound>(
     from: usize,
     findings: &mut ArrayVec<Finding, MOST_ROWS>,
 )
+    requires within { from ≤ length table.now.rows }
     requires size { length findings.old.items ≡ length table.now.rows }
     requires known { take from (map tells findings.old.items)
         ≡ take from (findings_of (B.meaning bound.now) table.now.frame table.now.rows) }

@@ -82,8 +82,8 @@ pub answered_is : {X A : Type 0} (f : X → A) (cs : List Check) (a : A) (r : Re
 answered_is f cs a r x given is = given_is cs (f x) a (sym (ap (answer f) is) ∙ given)
 
 -- and what is said of it holds
-pub when_ok : {X : Type 0} (P Q : Type 0) (r : Result X Fault) (x : X) → r ≡ Ok x → MatchResult r (λ _. P) (λ _. Q) → P
-when_ok P Q r x is said = subst (λ r. MatchResult r (λ _. P) (λ _. Q)) is said
+pub when_ok : {X : Type 0} (P : X → Type 0) (Q : Fault → Type 0) (r : Result X Fault) (x : X) → r ≡ Ok x → MatchResult r P Q → P x
+when_ok P Q r x is said = subst (λ r. MatchResult r P Q) is said
 
 -- no question is both answered and refused
 pub answered_once : {A B : Type 0} (cs : List Check) (x y : A) (n : Refusal) (at : ℕ) (z : B) → gives x ≡ checked cs y → refuses n at ≡ checked cs z → ⊥

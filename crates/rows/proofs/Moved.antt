@@ -1,7 +1,7 @@
 -- An element put into a list or taken out, and lists that are written over.
 use Rattle.std.proofs.Common.{◌≡◌, ℕ, suc, ◌+◌, ◌-◌, ◌<◌, ◌≤◌, List, [], ◌∷◌, ◌++◌, length, take, drop, set, refl, sym, ap, ◌∙◌, ap₂, arith}
-use Rattle.std.specs.List.{insert, remove, copy_within}
-use Rattle.std.proofs.lemmas.List.{append_assoc, drop-take, drop_at, length-append, length-drop, length-take-le, set_split, take-append-drop, take-append-le, take-take, take_all, take_at}
+use Rattle.std.specs.List.{insert, remove, copy_within, refill}
+use Rattle.std.proofs.lemmas.List.{append-nil, append_assoc, drop-take, drop_at, length-append, length-drop, length-take-le, nil_from_length, set_split, take-append-drop, take-append-le, take-take, take_all, take_at}
 use Rattle.std.proofs.lemmas.List.Edits.{length-paste, take-paste}
 use Rattle.rows.specs.Lists.{written}
 
@@ -66,3 +66,9 @@ out_cut rows out more k n m fewer within room is =
     let rest = drop (length rows - 1) rows in
     take-take n m (out ++ more) room ∙ ap (λ xs. take n (xs ++ more)) is ∙ ap (take n) (append_assoc (remove rows k) rest more)
     ∙ take_at (remove rows k) (rest ++ more) n (omega (arith, length_remove rows k (omega arith)))
+
+-- a lent list of as many places as before is what is left
+pub refilled : {X : Type 0} (old new : List X) → length new ≡ length old → refill (length old) old new ≡ new
+refilled old new size =
+    let none : drop (length new) old ≡ [] = nil_from_length (drop (length new) old) (omega (arith, length-drop (length new) old)) in
+    ap (λ xs. take (length old) (new ++ xs)) none ∙ ap (take (length old)) (append-nil new) ∙ take_all (length old) new (omega arith)
