@@ -5,4 +5,5 @@ pub mod Marks
 pub mod Laws
 pub mod Supplied
 pub mod Values
+pub mod Families
 pub mod Lemmas

@@ -2,12 +2,14 @@
 #![tactic(auto)]
 
 mod exact;
+mod families;
 mod interface;
 mod linear;
 mod releases;
 mod supplied;
 
 pub use exact::ExactSteps;
+pub use families::{Family, Short};
 pub use interface::{Bound, FINEST, asked};
 pub use linear::LinearTail;
 pub use supplied::Supplied;

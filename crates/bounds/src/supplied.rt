@@ -12,6 +12,19 @@ pub enum Supplied {
     LinearTail(LinearTail),
 }
 
+// The same call of whichever bound it is.
+macro_rules! ask {
+    ($supplied:expr, $bound:ident => $call:expr) => {
+        match $supplied {
+            Supplied::ExactSteps => {
+                let $bound = &ExactSteps;
+                $call
+            }
+            Supplied::LinearTail($bound) => $call,
+        }
+    };
+}
+
 impl Bound for Supplied {
     ghost use Rattle.std.specs.Prelude.{◌≡◌};
     ghost use Rattle.bounds.specs.Answering.{IsFloor, own_floor};
@@ -23,47 +36,29 @@ impl Bound for Supplied {
     ghost lawful = { laws_of };
 
     fn amount(&self, frame: u32, row: &Row, at: u32) -> u64 {
-        match self {
-            Supplied::ExactSteps => ExactSteps.amount(frame, row, at),
-            Supplied::LinearTail(tail) => tail.amount(frame, row, at),
-        }
+        ask!(self, bound => bound.amount(frame, row, at))
     }
 
     fn floor(&self, frame: u32, row: &Row, at: u32) -> u64
         ensures under { IsFloor (meaning_of self.now) frame row.now at result }
         ensures own { result ≡ own_floor (meaning_of self.now) frame row.now at }
     {
-        match self {
-            Supplied::ExactSteps => ExactSteps.floor(frame, row, at),
-            Supplied::LinearTail(tail) => tail.floor(frame, row, at),
-        }
+        ask!(self, bound => bound.floor(frame, row, at))
     }
 
     fn next_corner(&self, frame: u32, row: &Row, after: u32) -> Option<u32> {
-        match self {
-            Supplied::ExactSteps => ExactSteps.next_corner(frame, row, after),
-            Supplied::LinearTail(tail) => tail.next_corner(frame, row, after),
-        }
+        ask!(self, bound => bound.next_corner(frame, row, after))
     }
 
     fn mark(&self, row: &Row, after: u32, marks: &mut [bool]) -> Option<u32> {
-        match self {
-            Supplied::ExactSteps => ExactSteps.mark(row, after, marks),
-            Supplied::LinearTail(tail) => tail.mark(row, after, marks),
-        }
+        ask!(self, bound => bound.mark(row, after, marks))
     }
 
     fn accuracy(&self) -> u32 {
-        match self {
-            Supplied::ExactSteps => ExactSteps.accuracy(),
-            Supplied::LinearTail(tail) => tail.accuracy(),
-        }
+        ask!(self, bound => bound.accuracy())
     }
 
     fn most(&self) -> u32 {
-        match self {
-            Supplied::ExactSteps => ExactSteps.most(),
-            Supplied::LinearTail(tail) => tail.most(),
-        }
+        ask!(self, bound => bound.most())
     }
 }

@@ -1,5 +1,5 @@
 -- The frame and the rows of a table, as its callers see them.
-use Rattle.std.specs.Prelude.{ℕ, ◌+◌, Bool, not, [], ◌≤◌, List, ◌∷◌, ◌++◌, map, length, nat_le, nat_lt}
+use Rattle.std.specs.Prelude.{ℕ, ◌+◌, Bool, not, [], ◌≤◌, List, ◌∷◌, map, length, nat_le, nat_lt}
 use Rattle.std.specs.List.{AllPass}
 use Rattle.rows.specs.declared.frames.FrameNumbers.{FrameNumbers}
 use Rattle.rows.specs.declared.refusals.Refusal.TheVariants.{FullTable, OffFrame}

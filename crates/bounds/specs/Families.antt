@@ -1,0 +1,56 @@
+-- What the supplied bounds are called.
+use Rattle.std.specs.Prelude.{ℕ, Bool, true, false, not, List, [], ◌∷◌, ◌++◌, ◌==◌, Option, codes, decimal, find, if◌then◌else◌}
+use Rattle.rows.specs.declared.refusals.Refusal.TheVariants.{BadAccuracy}
+use Rattle.rows.specs.Answers.{Check, check}
+use Rattle.bounds.specs.declared.families.Family.{Family}
+use Rattle.bounds.specs.declared.families.Family.TheVariants.{ExactSteps as exact_kind, LinearTail as tail_kind}
+use Rattle.bounds.specs.declared.families.TheConstants.Family.{ALL}
+use Rattle.bounds.specs.declared.supplied.Supplied.{Supplied}
+use Rattle.bounds.specs.declared.supplied.Supplied.TheVariants.{ExactSteps as exact, LinearTail as tail}
+use Rattle.bounds.specs.Meaning.{is_accuracy}
+use Rattle.bounds.specs.Values.{accuracy_of}
+
+-- the number by which a heading names bounds of a kind
+abbrev pub family_number : Family → ℕ
+family_number exact_kind = 0
+family_number tail_kind = 1
+
+-- the word by which a script and a command line name them
+abbrev pub family_word : Family → List ℕ
+family_word exact_kind = codes "exact"
+family_word tail_kind = codes "linear"
+
+-- what they are called for people
+abbrev pub family_name : Family → List ℕ
+family_name exact_kind = codes "exact steps"
+family_name tail_kind = codes "linear tail"
+
+-- there is one for each accuracy; of the other kinds there is but one
+abbrev pub has_accuracies : Family → Bool
+has_accuracies exact_kind = false
+has_accuracies tail_kind = true
+
+-- the kind that a number names
+abbrev pub family_of_number : ℕ → Option Family
+family_of_number n = find (λ f. family_number f == n) ALL
+
+-- the kind of a bound, and the accuracy that is told with it: 0 where there is but one of the kind
+abbrev pub supplied_plain : Supplied → Family × ℕ
+supplied_plain exact = (exact_kind, 0)
+supplied_plain (tail t) = (tail_kind, accuracy_of t)
+
+-- an accuracy can be told with a kind: one of its accuracies, or 0 where it has none
+abbrev pub can_have : Family → ℕ → Bool
+can_have f k = if has_accuracies f then is_accuracy k else k == 0
+
+-- what is checked of it: bad accuracy
+abbrev pub family_accuracy_checks : Family → ℕ → List Check
+family_accuracy_checks f k = check (not (can_have f k)) BadAccuracy 0 ∷ []
+
+-- a bound as a person reads it: exact steps, or linear tail of accuracy 3
+abbrev pub shown_bound : Supplied → List ℕ
+shown_bound b = if has_accuracies (supplied_plain b).0 then family_name (supplied_plain b).0 ++ (codes " of accuracy " ++ decimal (supplied_plain b).1) else family_name (supplied_plain b).0
+
+-- and as a file is named for it: exact, or linear-3
+abbrev pub shown_short : Supplied → List ℕ
+shown_short b = if has_accuracies (supplied_plain b).0 then family_word (supplied_plain b).0 ++ (codes "-" ++ decimal (supplied_plain b).1) else family_word (supplied_plain b).0

@@ -1,0 +1,155 @@
+// What the supplied bounds are called: one table for headings, scripts, options and people.
+ghost use Rattle.std.specs.Prelude.{◌≡◌, Some};
+ghost use Rattle.rows.specs.Answers.{answer, checked};
+ghost use Rattle.bounds.specs.declared.families.Family.{Family};
+ghost use Rattle.bounds.specs.declared.families.TheConstants.Family.{ALL};
+ghost use Rattle.bounds.specs.Families.{
+  family_accuracy_checks,
+  family_name,
+  family_number,
+  family_of_number,
+  family_word,
+  has_accuracies,
+  shown_bound,
+  shown_short,
+  supplied_plain,
+};
+
+use crate::interface::Bound;
+use crate::linear::LinearTail;
+use crate::supplied::Supplied;
+use rows::{Fault, Refusal};
+use std::fmt;
+
+/// A kind of bound that is supplied (docs/RULES.md, Bounds): exact steps, or the linear tail of
+/// whatever accuracy.
+#[derive(Clone, Copy, PartialEq, Eq, Debug)]
+pub enum Family {
+    ExactSteps = 0,
+    LinearTail = 1,
+}
+
+impl Family {
+    /// All kinds, in the order of their numbers.
+    pub const ALL: [Family; 2] = [Family::ExactSteps, Family::LinearTail];
+
+    /// All of them. The number of each names it, and no other.
+    #[tactic(auto, using(crate::proofs::Families::numbered))]
+    pub fn all() -> [Family; 2]
+        ensures all { result ≡ ALL }
+        ensures each { (f : Family) → family_of_number (family_number f) ≡ Some f }
+    {
+        Family::ALL
+    }
+
+    /// The number by which a heading names bounds of the kind (docs/FORMAT.md, Entries).
+    pub fn number(&self) -> u8
+        ensures { result ≡ family_number self.now }
+    {
+        *self as u8
+    }
+}
+
+impl Family {
+    /// The kind that a heading names by a number, where there is one.
+    pub fn of_number(number: u8) -> Option<Family>
+        ensures { result ≡ family_of_number number }
+    {
+        match number {
+            0 => Some(Family::ExactSteps),
+            1 => Some(Family::LinearTail),
+            _ => None,
+        }
+    }
+
+    /// The word by which scripts and command lines name bounds of the kind.
+    pub fn word(&self) -> &'static str
+        ensures { result.now ≡ family_word self.now }
+    {
+        match self {
+            Family::ExactSteps => "exact",
+            Family::LinearTail => "linear",
+        }
+    }
+
+    /// What bounds of the kind are called for people.
+    pub fn name(&self) -> &'static str
+        ensures { result.now ≡ family_name self.now }
+    {
+        match self {
+            Family::ExactSteps => "exact steps",
+            Family::LinearTail => "linear tail",
+        }
+    }
+
+    /// Whether there is one bound of the kind for each accuracy from 1 to 64; else there is but one.
+    pub fn has_accuracies(&self) -> bool
+        ensures { result ≡ has_accuracies self.now }
+    {
+        matches!(self, Family::LinearTail)
+    }
+
+    /// The bound of the kind that an accuracy names: 0 where there is but one.
+    ///
+    /// Refused with 3, bad accuracy, at 0 for any other, and outside 1 to 64 where there is one for
+    /// each (docs/REFUSALS.md).
+    pub fn bound(&self, accuracy: u32) -> Result<Supplied, Fault>
+        ensures { answer supplied_plain result
+            ≡ checked (family_accuracy_checks self.now accuracy) (self.now, accuracy) }
+    {
+        match self {
+            Family::ExactSteps if accuracy == 0 => Ok(Supplied::ExactSteps),
+            Family::ExactSteps => Err(Refusal::BadAccuracy.at(0)),
+            Family::LinearTail => Ok(Supplied::LinearTail(LinearTail::new(accuracy)?)),
+        }
+    }
+}
+
+impl Supplied {
+    ghost use Rattle.std.specs.Prelude.{◌≡◌};
+    ghost use Rattle.bounds.specs.Families.{supplied_plain};
+
+    /// The kind of the bound, and the accuracy that is told with it: 0 where there is but one of the
+    /// kind.
+    pub fn plain(&self) -> (Family, u32)
+        ensures { result ≡ supplied_plain self.now }
+    {
+        match self {
+            Supplied::ExactSteps => (Family::ExactSteps, 0),
+            Supplied::LinearTail(tail) => (Family::LinearTail, tail.accuracy()),
+        }
+    }
+}
+
+// A bound as a person reads it: "exact steps", or "linear tail of accuracy 3".
+impl fmt::Display for Supplied {
+    ghost output = { λ b. Some (shown_bound b) };
+
+    fn fmt<W: fmt::Write>(&self, f: &mut fmt::Formatter<W>) -> fmt::Result {
+        let (family, accuracy) = self.plain();
+        let name = family.name();
+        if family.has_accuracies() {
+            write!(f, "{name} of accuracy {accuracy}")
+        } else {
+            f.write_str(name)
+        }
+    }
+}
+
+/// A bound as a file is named for it: `exact`, or `linear-3`.
+#[derive(Clone, Copy, PartialEq, Eq, Debug)]
+pub struct Short(pub Supplied);
+
+impl fmt::Display for Short {
+    ghost output = { λ s. Some (shown_short s.0) };
+
+    fn fmt<W: fmt::Write>(&self, f: &mut fmt::Formatter<W>) -> fmt::Result {
+        let (family, accuracy) = self.0.plain();
+        let word = family.word();
+        if family.has_accuracies() {
+            write!(f, "{word}-{accuracy}")
+        } else {
+            f.write_str(word)
+        }
+    }
+}
