@@ -3,4 +3,4 @@ pub mod Floors
 pub mod Marking
 pub mod Rises
 pub mod SameTail
-pub mod Families
+pub mod Numbered

@@ -34,7 +34,7 @@ impl Family {
     pub const ALL: [Family; 2] = [Family::ExactSteps, Family::LinearTail];
 
     /// All of them. The number of each names it, and no other.
-    #[tactic(auto, using(crate::proofs::Families::numbered))]
+    #[tactic(auto, using(crate::proofs::Numbered::numbered))]
     pub fn all() -> [Family; 2]
         ensures all { result ≡ ALL }
         ensures each { (f : Family) → family_of_number (family_number f) ≡ Some f }

@@ -18,7 +18,8 @@ use Rattle.findings.specs.Findings.{first_rest}
 use Rattle.findings.proofs.Amounts.{asked_on_frame}
 use Rattle.findings.proofs.FixedPoint.{sum_scaled, leb_scaled, rests_exactly}
 use Rattle.findings.specs.Countable.{StandOn}
-use Rattle.brackets.specs.Bracketing.{is_slow_rest, slow_rest, Brackets, FewerIsNoLater}
+use Rattle.brackets.specs.Speeds.{rest_at_speed}
+use Rattle.brackets.specs.Bracketing.{is_slow_rest, Brackets, FewerIsNoLater}
 use Rattle.brackets.proofs.Earlier.{no_later, none_later}
 
 -- a sum of smaller amounts is smaller
@@ -66,7 +67,7 @@ module _ {m : Meaning} (laws : Laws m) (h : ℕ) (r : Row) (above : List Row) (s
 
 -- so every finding by a lawful bound is bracketed
 pub brackets : {m : Meaning} → Laws m → Brackets m
-unfolding first_rest exact_rest slow_rest
+unfolding first_rest exact_rest rest_at_speed
 brackets {m} laws h r above stands =
     let rest = is_rest (load m h.ticks r.work above) in
     let slow = no_later rest (is_slow_rest m.accuracy r above) (window r) (λ t _ within. bound_from_slow laws h.ticks r above stands t (window_near r t within)) in

@@ -5,3 +5,5 @@ pub mod Rearranged
 pub mod TwoCounts
 pub mod Tried
 pub mod Climbing
+pub mod SlowRests
+pub mod Responses

@@ -1,5 +1,5 @@
 -- What two answered questions about a row tell together.
-use Rattle.std.proofs.Common.{◌≡◌, ℕ, List, sym, ap, ◌∙◌, subst, ap₂}
+use Rattle.std.proofs.Common.{◌≡◌, sym, ap, ◌∙◌, subst, ap₂}
 use Rattle.rows.specs.declared.tasks.Row.{Row}
 use Rattle.rows.specs.Answers.{gives, checked}
 use Rattle.rows.specs.Books.{Book, IsJudged}

@@ -1,15 +1,14 @@
 -- First rests compared: in exact steps, by a bound, and in exact steps on a slower processor.
-use Rattle.std.specs.Prelude.{◌≡◌, ℕ, ◌+◌, ◌*◌, ◌≤◌, Bool, List, ◌∷◌, ◌++◌, Some, None, Option, nat_le}
+use Rattle.std.specs.Prelude.{◌≡◌, ℕ, ◌+◌, ◌≤◌, Bool, List, ◌∷◌, ◌++◌, Some, None, Option}
 use Rattle.std.specs.List.Sorted.{IsPermutation}
 use Rattle.rows.specs.declared.frames.FrameNumbers.{FrameNumbers}
 use Rattle.rows.specs.declared.tasks.Row.{Row}
-use Rattle.rows.specs.Counting.{window}
-use Rattle.bounds.specs.Instants.{least}
 use Rattle.bounds.specs.Meaning.{Meaning}
 use Rattle.bounds.specs.Supplied.{linear_tail}
-use Rattle.findings.specs.Exact.{exact_demand, exact_rest}
+use Rattle.findings.specs.Exact.{exact_rest}
 use Rattle.findings.specs.Findings.{row_finding}
 use Rattle.findings.specs.Countable.{StandOn}
+use Rattle.brackets.specs.Speeds.{is_rest_at_speed, rest_at_speed}
 
 -- the first rest a comes no later than b: wherever there is a b, there is an a, and it is at most b
 abbrev pub IsNoLater : Option ℕ → Option ℕ → Type 0
@@ -19,11 +18,11 @@ IsNoLater (Some s) (Some t) = s ≤ t
 
 -- the row rests at t in exact steps on a processor of speed k / (k + 1)
 abbrev pub is_slow_rest : ℕ → Row → List Row → ℕ → Bool
-is_slow_rest k r above t = nat_le ((k + 1) * exact_demand r above t) (k * t)
+is_slow_rest k r above t = is_rest_at_speed k (k + 1) r above t
 
 -- the first rest in exact steps at speed k / (k + 1)
-unfoldable pub slow_rest : ℕ → Row → List Row → Option ℕ
-slow_rest k r above = least (is_slow_rest k r above) (window r) 1
+abbrev pub slow_rest : ℕ → Row → List Row → Option ℕ
+slow_rest k r above = rest_at_speed k (k + 1) r above
 
 -- a first rest of a row by a bound of accuracy k, or none, lies between those in exact steps at
 -- full speed and at speed k / (k + 1)

@@ -1,3 +1,4 @@
+pub mod Speeds
 pub mod Bracketing
 pub mod Counting
 pub mod Slower

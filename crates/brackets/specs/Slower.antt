@@ -1,22 +1,20 @@
 -- The first rest on a slower processor, asked for: when that is refused, and what it says.
-use Rattle.std.specs.Prelude.{◌≡◌, ℕ, ◌≤◌, false, List, [], ◌∷◌, ◌++◌, length, Option, MatchOption, nat_lt}
-use Rattle.rows.specs.declared.refusals.Refusal.TheVariants.{FullTable}
+use Rattle.std.specs.Prelude.{◌≡◌, ℕ, ◌≤◌, false, List, ◌++◌, Option, MatchOption}
 use Rattle.rows.specs.declared.frames.FrameNumbers.{FrameNumbers}
 use Rattle.rows.specs.declared.tasks.Row.{Row}
-use Rattle.rows.specs.Answers.{Check, check}
+use Rattle.rows.specs.Answers.{Check}
 use Rattle.rows.specs.Counting.{window}
 use Rattle.bounds.specs.Instants.{IsFirst}
 use Rattle.bounds.specs.Laws.{Laws}
 use Rattle.bounds.specs.Meaning.{Meaning, accuracy_checks}
-use Rattle.findings.specs.Asking.{most_above}
+use Rattle.findings.specs.Asking.{above_checks}
 use Rattle.findings.specs.Countable.{StandOn}
 use Rattle.findings.specs.Findings.{row_finding}
 use Rattle.brackets.specs.Bracketing.{IsNoLater, is_slow_rest}
 
 -- what is checked of the question, in order: bad accuracy; full table
 abbrev pub slow_checks : ℕ → List Row → List Check
-slow_checks k above =
-    accuracy_checks k ++ check (nat_lt most_above (length above)) FullTable 0 ∷ []
+slow_checks k above = accuracy_checks k ++ above_checks above
 
 -- a first rest at speed k / (k + 1) is an instant from 1 to the window at which the row rests at
 -- that speed, and no earlier one is; without one, the row rests at none of them

@@ -1,16 +1,13 @@
 // The public questions about a row: its input is checked before anything is counted.
-ghost use Rattle.std.specs.Prelude.{◌≡◌, ◌+◌, ◌≤◌, IfOk, OnOk, length};
-ghost use Rattle.std.specs.Option.{option_map};
+ghost use Rattle.std.specs.Prelude.{◌≡◌, ◌≤◌, IfOk, OnOk, length};
 ghost use Rattle.rows.specs.Answers.{answer, checked};
 ghost use Rattle.rows.specs.Books.{IsJudged};
-ghost use Rattle.bounds.specs.Supplied.{exact_steps};
 ghost use Rattle.findings.specs.Asking.{most_above, question_checks};
 ghost use Rattle.rows.specs.Found.{tells};
 ghost use Rattle.findings.specs.Findings.{row_finding, RowSays};
-ghost use Rattle.findings.specs.Exact.{response, Responds};
 
 use crate::loads::Load;
-use bounds::{Bound, ExactSteps};
+use bounds::Bound;
 use rows::{Fault, Finding, MOST_ROWS, Refusal, Row, Table};
 
 // One row of a table less: at most so many stand above another.
@@ -47,22 +44,4 @@ pub fn find<B: Bound>(bound: &B, row: &Row, above: &Table) -> Result<Finding, Fa
 {
     check_question(row, above)?;
     Ok(Load::new(bound, above.frame(), row.work, above.rows()).search(row.window()))
-}
-
-/// The response time of a row below a table in ticks from its release, in exact steps: none where it
-/// misses its deadline (docs/RULES.md, Rests). It is the same on each frame that the rows stand on.
-///
-/// Refused as `find` is: 9, full table, at 0; 8, off frame, at the rank below the table's last.
-pub fn response_time(row: &Row, above: &Table) -> Result<Option<u64>, Fault>
-    ensures answered { answer (λ o. o) result
-        ≡ checked (question_checks row.now above.now) (response row.now above.now.rows) }
-    ensures first { IfOk result (λ o. o ≡ option_map (λ t. t + row.now.jitter)
-        (row_finding exact_steps above.now.frame row.now above.now.rows).rest) }
-    ensures fixed { IfOk result (λ o. Responds row.now above.now.rows o) }
-{
-    check_question(row, above)?;
-    let finding = Load::new(&ExactSteps, above.frame(), row.work, above.rows()).search(
-        row.window(),
-    );
-    Ok(finding.response_bound(row))
 }

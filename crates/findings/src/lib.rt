@@ -10,6 +10,6 @@ mod recounting;
 mod searching;
 mod skipping;
 
-pub use asking::{find, response_time};
+pub use asking::find;
 pub use recounting::recount;
 pub use rows::{Finding, Verdict};

@@ -1,7 +1,7 @@
 use Rattle.std.proofs.Common.{rules, ◌≡◌, ◌+◌, arith}
 use Rattle.findings.specs.Exact.{exact_demand}
 use Rattle.brackets.proofs.Climbing.{demand_small}
-use Rattle.brackets.proofs.slower.exact_demand.Goals as goal
+use Rattle.brackets.proofs.speeds.exact_demand.Goals as goal
 
 pub overflow_add-result : goal.overflow_add-result
 overflow_add-result c =
