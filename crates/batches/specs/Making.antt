@@ -1,7 +1,7 @@
 -- What is answered to the two numbers of such a bound, and what a caller may know of it as a value.
 use Rattle.std.specs.Prelude.{ℕ, Bool, ◌&&◌, Ok, Err, Result, nat_le, if◌then◌else◌}
+use Rattle.rows.specs.declared.refusals.Refusal.{Refusal}
 use Rattle.rows.specs.declared.refusals.Refusal.TheVariants.{BadAccuracy}
-use Rattle.rows.specs.Refusals.{number}
 use Rattle.rows.specs.Times.{horizon}
 use Rattle.bounds.specs.Meaning.{is_accuracy}
 use Rattle.batches.specs.declared.Batches.{Batches}
@@ -17,11 +17,11 @@ parameters_of b = parameters b.accuracy b.size
 abbrev pub is_size : ℕ → Bool
 is_size g = nat_le 1 g && nat_le g horizon
 
--- what making the bound answers: the bound of two numbers; a refusal by its number and the position that it tells;
--- or the size of a batch that none can have
+-- what making the bound answers: the bound of two numbers; a refusal and the position that it tells; or the size of a
+-- batch that none can have
 pub data Outcome : Type 0 where
   makes : Parameters → Outcome
-  refuses : ℕ → ℕ → Outcome
+  refuses : Refusal → ℕ → Outcome
   denies : ℕ → Outcome
 
 -- what a result answers

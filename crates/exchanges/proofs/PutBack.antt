@@ -6,29 +6,31 @@ use Rattle.std.specs.Result.{IsOk, is_err}
 use Rattle.std.proofs.lemmas.Bool.{le-ltb, ne_eqb, and_from, le-leb}
 use Rattle.std.proofs.lemmas.List.{drop_at, get_or_at, take_at, length-append, length-drop, length-take-le}
 use Rattle.std.proofs.lemmas.List.Elements.{All-weaker}
-use Rattle.rows.specs.declared.refusals.Refusal.TheVariants.{IdleRow, NoWindow, LateDeadline, LongPeriod, OffFrame, NoRank}
+use Rattle.rows.specs.declared.frames.FrameNumbers.{FrameNumbers}
+use Rattle.rows.specs.declared.judging.Flaw.TheVariants.{Idle, Cramped, Late, Long, Off}
+use Rattle.rows.specs.declared.refusals.Refusal.TheVariants.{IdleRow, NoWindow, LateDeadline, LongPeriod, OffFrame, NoRank, Overload}
 use Rattle.rows.specs.declared.refusals.Fault.{Fault}
 use Rattle.rows.specs.declared.tasks.Numbers.{Numbers}
 use Rattle.rows.specs.declared.tasks.Row.{Row}
 use Rattle.rows.specs.Answers.{Answer, gives, refuses, refuses_at, Check, checked, first_refusal, refusal}
+use Rattle.rows.specs.Books.{Book, IsJudged, book}
 use Rattle.rows.specs.Counting.{is_on_frame}
-use Rattle.rows.specs.Judging.{plain, frame_flaws, flaw_checks, is_off_frame, is_idle, has_no_window, has_late_deadline, has_long_period}
+use Rattle.rows.specs.Judging.{plain, has_flaw, frame_flaws, flaw_checks}
 use Rattle.rows.specs.Lists.{at_rank, first_of}
-use Rattle.rows.specs.Refusals.{number}
-use Rattle.rows.specs.Times.{horizon, most_rows}
+use Rattle.rows.specs.Ranks.{is_rank}
+use Rattle.rows.specs.Times.{horizon}
 use Rattle.rows.proofs.Checks.{first_passes, given_is, gives_any, passes_on, places_pass_on, refuses_any}
 use Rattle.rows.proofs.SameRow.{same_row}
 use Rattle.bounds.specs.Meaning.{Meaning}
 use Rattle.rows.specs.Found.{Found, tells, is_met, is_miss}
 use Rattle.rows.specs.declared.verdicts.Finding.{Finding}
-use Rattle.findings.specs.Countable.{CanBeCounted}
 use Rattle.findings.specs.Findings.{row_finding}
 use Rattle.findings.specs.Tables.{findings_of}
 use Rattle.admission.specs.declared.calls.Call.TheVariants.{Admit, Dismiss, Inquire}
 use Rattle.admission.specs.declared.calls.Reply.{Reply}
 use Rattle.admission.specs.declared.calls.Reply.TheVariants.{Found as FoundRow}
 use Rattle.admission.specs.Benches.{Held, bench, Does}
-use Rattle.admission.specs.Books.{Book, book, checks_of, is_rank, step, told, without}
+use Rattle.admission.specs.Books.{checks_of, step, told, without}
 use Rattle.admission.specs.Replies.{Told, answer_of, as_done, done, row_found}
 use Rattle.admission.proofs.Called.{admits, newcomer_is}
 use Rattle.admission.proofs.Entry.{rank_within}
@@ -64,7 +66,7 @@ told_stands m rank now r f does =
     let b = now.book in
     let cs = checks_of m b (Inquire rank) in
     let given : gives (row_found (plain r) (tells f)) ≡ checked cs (told m b (Inquire rank)) = does.replies ∙ step_answers m b (Inquire rank) in
-    let within = rank_within (length b.rows) rank (first_passes (not (is_rank (length b.rows) rank)) 10 0 (row_found (plain r) (tells f)) (gives (told m b (Inquire rank))) given).0 in
+    let within = rank_within (length b.rows) rank (first_passes (not (is_rank (length b.rows) rank)) NoRank 0 (row_found (plain r) (tells f)) (gives (told m b (Inquire rank))) given).0 in
     let parts = parts_at rank b.rows within.0 within.1 in
     let there = at_there rank b.rows (take (rank - 1) b.rows) (drop rank b.rows) parts.0 within.0 (length-take-le (rank - 1) b.rows (omega (arith, within.1))) parts.1 in
     let about = row_finding m b.frame parts.0 (take (rank - 1) b.rows) in
@@ -79,22 +81,22 @@ told_stands m rank now r f does =
     }
 
 -- a row on a frame has no flaw
-no_flaw : (h : ℕ) (r : Row) → is_on_frame h r ≡ true → gives (plain r) ≡ checked (flaw_checks (frame_flaws h) (plain r) 0) (plain r)
+no_flaw : (h : FrameNumbers) (r : Row) → is_on_frame h.ticks r ≡ true → gives (plain r) ≡ checked (flaw_checks (frame_flaws h) (plain r) 0) (plain r)
 no_flaw h r on =
     let n = plain r in
-    sym (passes_on (is_idle n) IdleRow 0 _ (ne_eqb r.work 0 (λ e. omega (arith, e, r.busy)))
-    ∙ passes_on (has_no_window n) NoWindow 0 _ (le-ltb r.deadline (r.work + r.jitter) r.roomy)
-    ∙ passes_on (has_late_deadline n) LateDeadline 0 _ (le-ltb r.period r.deadline r.timely)
-    ∙ passes_on (has_long_period n) LongPeriod 0 _ (le-ltb horizon r.period r.near)
-    ∙ passes_on (is_off_frame h n) OffFrame 0 (gives n) (ap not on))
+    sym (passes_on (has_flaw Idle n) IdleRow 0 _ (ne_eqb r.work 0 (λ e. omega (arith, e, r.busy)))
+    ∙ passes_on (has_flaw Cramped n) NoWindow 0 _ (le-ltb r.deadline (r.work + r.jitter) r.roomy)
+    ∙ passes_on (has_flaw Late n) LateDeadline 0 _ (le-ltb r.period r.deadline r.timely)
+    ∙ passes_on (has_flaw Long n) LongPeriod 0 _ (le-ltb horizon r.period r.near)
+    ∙ passes_on (has_flaw (Off h) n) OffFrame 0 (gives n) (ap not on))
 
 -- where all findings are met, none is a miss
 no_miss : (fs : List Found) → AllPass is_met fs → position is_miss fs ≡ None
 no_miss fs met =
     by (position is_miss fs)
-    (places_pass_on is_miss (λ i. i) fs 0 (gives tt) (All-weaker (λ f. is_met f ≡ true) (λ f. is_miss f ≡ false) (λ f. ap not) fs met))
+    (places_pass_on is_miss (λ i. i) fs Overload (gives tt) (All-weaker (λ f. is_met f ≡ true) (λ f. is_miss f ≡ false) (λ f. ap not) fs met))
   where
-    by : (o : Option ℕ) → refuses_at {A = Unit {0}} 0 (option_map (λ i. i) o) (gives tt) ≡ gives tt → o ≡ None
+    by : (o : Option ℕ) → refuses_at {A = Unit {0}} Overload (option_map (λ i. i) o) (gives tt) ≡ gives tt → o ≡ None
     by None passes = refl
     by (Some i) passes = cc
 
@@ -120,21 +122,21 @@ module _ (m : Meaning) (b : Book) (rank : ℕ) (r : Row) (there : StandsAt rank 
       there.split ∙ sym (ap₂ (λ xs ys. xs ++ r ∷ ys) (take_at front back (rank - 1) place) (drop_at front back (rank - 1) place))
 
   -- it stands on the frame
-  on_frame : AllPass (is_on_frame b.frame) b.rows → is_on_frame b.frame r ≡ true
+  on_frame : AllPass (is_on_frame b.frame.ticks) b.rows → is_on_frame b.frame.ticks r ≡ true
   on_frame on =
       let place = length-take-le (rank - 1) b.rows (omega (arith, there.high)) in
       let is : get_or b.rows (rank - 1) r ≡ r = ap (λ rs. get_or rs (rank - 1) r) there.split ∙ get_or_at (take (rank - 1) b.rows) r (drop rank b.rows) r (rank - 1) place in
-      ap (is_on_frame b.frame) (sym is) ∙ on (rank - 1) r (omega (arith, there.low, there.high))
+      ap (is_on_frame b.frame.ticks) (sym is) ∙ on (rank - 1) r (omega (arith, there.low, there.high))
 
-  -- where the rows stand on the frame and all meet, it is admitted back, and the book is as it was
-  pub back : CanBeCounted most_rows b.frame b.rows → AllPass is_met (findings_of m b.frame b.rows) → step m (without_it rank b) (Admit rank (plain r)) ≡ (b, gives done)
-  back counted met =
+  -- where the table is judged and all rows meet, it is admitted back, and the book is as it was
+  pub back : IsJudged b → AllPass is_met (findings_of m b.frame b.rows) → step m (without_it rank b) (Admit rank (plain r)) ≡ (b, gives done)
+  back table met =
       let lone = without_it rank b in
       let front = take (rank - 1) b.rows in
       let many : length (without rank b.rows) + 1 ≡ length b.rows =
       omega (arith, length-append front (drop rank b.rows), length-take-le (rank - 1) b.rows (omega (arith, there.high)), length-drop rank b.rows, there.low, there.high) in
-      let judged = no_flaw b.frame r (on_frame counted.stands.on) in
-      let given = admits m lone rank (plain r) r judged (omega (arith, many, counted.few)) there.low (omega (arith, many, there.high)) b.rows put_back (no_miss (findings_of m b.frame b.rows) met) in
+      let judged = no_flaw b.frame r (on_frame table.on) in
+      let given = admits m lone rank (plain r) r judged (omega (arith, many, table.few)) there.low (omega (arith, many, there.high)) b.rows put_back (no_miss (findings_of m b.frame b.rows) met) in
       step_given m lone (Admit rank (plain r)) done given
       ∙ ap (λ rows. (book b.frame rows, gives done)) (newcomer_is m lone rank (plain r) r judged ∙ sym put_back)
 
@@ -172,13 +174,13 @@ module _ {B : Type 0} (meaning : B → Meaning) (old alone : Held B) (rank : ℕ
       same_refusal result cs ((admits_there n alone new (as_done result) refl does).replies ∙ step_answers m (without_it rank b) (Admit rank n))
       ∙ sym (passes_on (not (is_rank (length b.rows) rank)) NoRank 0 (first_refusal cs) (passes m b rank r there))
 
-  -- where the rows stood on the frame and all met, the row is admitted back, and the bench is as it was
-  module _ (counted : CanBeCounted most_rows old.book.frame old.book.rows) (met : AllPass is_met (findings_of (meaning old.bound) old.book.frame old.book.rows))
+  -- where the table was judged and all rows met, the row is admitted back, and the bench is as it was
+  module _ (table : IsJudged old.book) (met : AllPass is_met (findings_of (meaning old.bound) old.book.frame old.book.rows))
       (now new : Held B) (same : now ≡ alone) (n : Numbers) (its : n ≡ plain r) (result : Result (Unit {0}) Fault) (does : Does (meaning now.bound) (Admit rank n) now new (as_done result)) where
     comes_back : step (meaning old.bound) (without_it rank old.book) (Admit rank n) ≡ (old.book, gives done)
     comes_back =
         ap (λ ns. step (meaning old.bound) (without_it rank old.book) (Admit rank ns)) its
-        ∙ back (meaning old.bound) old.book rank r there counted met
+        ∙ back (meaning old.bound) old.book rank r there table met
 
     pub is_back : IsOk result
     is_back = done_ok result ((admits_there n now new (as_done result) same does).replies ∙ ap (λ s. s.1) comes_back)

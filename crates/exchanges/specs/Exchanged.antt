@@ -1,12 +1,13 @@
 -- A row that stands on a bench, exchanged for another one.
-use Rattle.std.specs.Prelude.{ℕ, ◌-◌, not, List, ◌∷◌, [], ◌++◌, length, take, drop}
-use Rattle.rows.specs.declared.refusals.Refusal.TheVariants.{NoRank}
+use Rattle.std.specs.Prelude.{ℕ, ◌-◌, List, ◌∷◌, [], ◌++◌, length, take, drop}
 use Rattle.rows.specs.declared.tasks.Numbers.{Numbers}
-use Rattle.rows.specs.Answers.{Check, check}
+use Rattle.rows.specs.Answers.{Check}
+use Rattle.rows.specs.Books.{Book, book}
 use Rattle.rows.specs.Judging.{rows_of}
+use Rattle.rows.specs.Ranks.{rank_checks}
 use Rattle.bounds.specs.Meaning.{Meaning}
 use Rattle.admission.specs.declared.calls.Call.TheVariants.{Admit}
-use Rattle.admission.specs.Books.{Book, book, checks_of, is_rank, without}
+use Rattle.admission.specs.Books.{checks_of, without}
 
 -- a book with the row at a rank exchanged for the row of four numbers: those before and after it stay in their ranks
 abbrev pub exchanged : ℕ → Numbers → Book → Book
@@ -16,5 +17,4 @@ exchanged rank n b = book b.frame (take (rank - 1) b.rows ++ (rows_of (n ∷ [])
 -- admission of the new row on the book without the old one
 abbrev pub exchange_checks : Meaning → Book → ℕ → Numbers → List Check
 exchange_checks m b rank n =
-    check (not (is_rank (length b.rows) rank)) NoRank 0
-    ∷ checks_of m (book b.frame (without rank b.rows)) (Admit rank n)
+    rank_checks (length b.rows) rank ++ checks_of m (book b.frame (without rank b.rows)) (Admit rank n)

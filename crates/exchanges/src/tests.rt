@@ -3,7 +3,7 @@ use crate::exchange;
 use admission::{Bench, Call, Reply, play};
 use batches::Batches;
 use bounds::{Bound, ExactSteps, LinearTail};
-use rows::{Fault, Finding, Numbers, Refusal, Verdict};
+use rows::{Fault, Finding, FrameNumbers, Numbers, Refusal, Verdict};
 use std::test::Fail;
 use tables::survey;
 
@@ -28,6 +28,9 @@ const E: Numbers = Numbers {
     period: 12,
     jitter: 0,
 };
+
+// The frame of the worked table.
+const FRAME: FrameNumbers = FrameNumbers { ticks: 12 };
 
 // Four plain numbers: work, deadline, period and jitter.
 fn numbers(work: u32, deadline: u32, period: u32, jitter: u32) -> Numbers {
@@ -56,7 +59,7 @@ fn standing<T: Bound>(bench: &Bench<T>, rank: usize) -> Result<(Numbers, Finding
 #[test]
 fn worked_bench(rt: HostRuntime) -> Result<(), Fail> {
     let mut bench = Bench::new(LinearTail::new(2)?);
-    bench.set_frame(12)?;
+    bench.set_frame(FRAME)?;
     bench.admit(1, A)?;
     bench.admit(2, B)?;
     assert_eq!(rt; bench.admit(3, E), Err(Refusal::Overload.at(3)));
@@ -70,7 +73,7 @@ fn worked_bench(rt: HostRuntime) -> Result<(), Fail> {
 #[test]
 fn as_many_rows_as_may_stand(rt: HostRuntime) -> Result<(), Fail> {
     let mut bench = Bench::new(ExactSteps);
-    bench.set_frame(64)?;
+    bench.set_frame(FrameNumbers { ticks: 64 })?;
     for rank in 1..=32 {
         bench.admit(rank, numbers(1, 64, 64, 0))?;
     }
@@ -78,7 +81,7 @@ fn as_many_rows_as_may_stand(rt: HostRuntime) -> Result<(), Fail> {
         bench.admit(1, numbers(1, 64, 64, 0)),
         Err(Refusal::FullTable.at(0))
     );
-    assert_eq!(rt; bench.rows().len(), 32);
+    assert_eq!(rt; bench.table().len(), 32);
     assert_eq!(rt; standing(&bench, 32)?.1, meets(32, 1));
     Ok(())
 }
@@ -90,7 +93,7 @@ fn answered<T: Bound + Drop>(
     new: Numbers,
 ) -> Result<(Result<(), Fault>, [(Numbers, Finding); 2]), Fault> {
     let mut bench = Bench::new(bound);
-    bench.set_frame(12)?;
+    bench.set_frame(FRAME)?;
     bench.admit(1, A)?;
     bench.admit(2, B)?;
     let answer = exchange(&mut bench, rank, new);
@@ -128,9 +131,9 @@ fn refused_exchanges(rt: HostRuntime) -> Result<(), Fail> {
 fn played_calls(rt: HostRuntime) -> Result<(), Fail> {
     let calls = [
         Call::Admit(1, A),
-        Call::Frame(12),
+        Call::Frame(FRAME),
         Call::Admit(1, B),
-        Call::Frame(6),
+        Call::Frame(FrameNumbers { ticks: 6 }),
         Call::Admit(1, A),
         Call::Admit(3, E),
         Call::Dismiss(3),
@@ -150,14 +153,15 @@ fn played_calls(rt: HostRuntime) -> Result<(), Fail> {
     ];
     assert_eq!(rt; replies, expected);
     let mut list = [meets(7, 7); 2];
-    survey(bench.bound(), bench.frame(), &[A, B], &mut list)?;
+    let frame = bench.table().frame().numbers();
+    survey(bench.bound(), frame, &[A, B], &mut list)?;
     assert_eq!(rt; bench.findings(), list.as_slice());
     Ok(())
 }
 
 #[test]
 fn too_few_places(rt: HostRuntime) {
-    let calls = [Call::Frame(12), Call::Admit(1, A)];
+    let calls = [Call::Frame(FRAME), Call::Admit(1, A)];
     let stays = [Reply::Refused(Refusal::OffFrame.at(7))];
     let mut replies = stays;
     let refused = play(ExactSteps, &calls, &mut replies).err();
