@@ -8,3 +8,4 @@ pub mod Finer
 pub mod Overloads
 pub mod Called
 pub mod Played
+pub mod RanksTold

@@ -39,7 +39,7 @@ entry_checks b rank n = flaw_checks (frame_flaws b.frame) n 0 ++ place_checks (l
 abbrev pub overload_check : Meaning → Book → ℕ → Numbers → Check
 overload_check m b rank n = check_each is_miss Overload (findings_of m b.frame (with_newcomer rank n b.rows))
 
--- what is checked of a call on a book, in order. Overload tells a rank; nothing else does
+-- what is checked of a call on a book, in order
 abbrev pub checks_of : Meaning → Book → Call → List Check
 checks_of m b (Frame h) = frame_checks h ++ check (nat_lt 0 (length b.rows)) StandingRows 0 ∷ []
 checks_of m b (Admit rank n) = entry_checks b rank n ++ overload_check m b rank n ∷ []

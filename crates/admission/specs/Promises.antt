@@ -1,11 +1,13 @@
 -- What holds of a bench after every list of calls.
-use Rattle.std.specs.Prelude.{◌≡◌, ℕ, ◌+◌, ◌≤◌, List, [], ◌∷◌, ◌++◌, length, Some, None, nat_lt}
+use Rattle.std.specs.Prelude.{◌≡◌, ℕ, ◌+◌, ◌≤◌, false, List, [], ◌∷◌, ◌++◌, length, Some, None, nat_lt}
 use Rattle.std.specs.List.{AllPass}
 use Rattle.rows.specs.declared.frames.FrameNumbers.{FrameNumbers}
+use Rattle.rows.specs.declared.refusals.Refusal.{Refusal}
 use Rattle.rows.specs.declared.refusals.Refusal.TheVariants.{Overload, ShortList}
 use Rattle.rows.specs.declared.tasks.Numbers.{Numbers}
 use Rattle.rows.specs.declared.tasks.Row.{Row}
 use Rattle.rows.specs.Answers.{Check, check, gives, refuses}
+use Rattle.rows.specs.Books.{Book}
 use Rattle.rows.specs.Lists.{at_rank}
 use Rattle.bounds.specs.Meaning.{Meaning}
 use Rattle.bounds.specs.Supplied.{linear_tail}
@@ -17,7 +19,7 @@ use Rattle.admission.specs.declared.calls.Call.{Call}
 use Rattle.admission.specs.declared.calls.Call.TheVariants.{Admit}
 use Rattle.rows.specs.Found.{is_met}
 use Rattle.admission.specs.Books.{step, with_newcomer}
-use Rattle.admission.specs.Replies.{done}
+use Rattle.admission.specs.Replies.{done, tells_rank}
 use Rattle.admission.specs.Runs.{book_after, answers_to}
 
 -- what is checked of a list of calls that is to be replied to into so many places: short list
@@ -60,6 +62,12 @@ OverloadsMiss m =
     → at_rank (length before + 1) (answers_to m (before ++ c ∷ after)) ≡ Some (refuses Overload at)
     → (rank : ℕ) × (n : Numbers) × (c ≡ Admit rank n)
     × NamesMiss m (book_after m before).frame (with_newcomer rank n (book_after m before).rows) at
+
+-- a refusal of another kind tells 0, whatever the call and the book
+abbrev pub OthersTellZero : Type 0
+OthersTellZero =
+    (m : Meaning) (b : Book) (c : Call) (r : Refusal) (at : ℕ)
+    → (step m b c).1 ≡ refuses r at → tells_rank r ≡ false → at ≡ 0
 
 -- of two benches by linear tails whose books have come to agree, whatever lists of calls led there, the one that is at
 -- least as accurate admits at each rank every newcomer that the other admits there

@@ -1,6 +1,8 @@
 -- What a bench replies to a call. A bench is a table on which tasks arrive and leave.
-use Rattle.std.specs.Prelude.{Ok, Err, Result}
+use Rattle.std.specs.Prelude.{Bool, true, false, Ok, Err, Result}
 use Rattle.rows.specs.declared.refusals.Fault.{Fault}
+use Rattle.rows.specs.declared.refusals.Refusal.{Refusal}
+use Rattle.rows.specs.declared.refusals.Refusal.TheVariants.{Overload}
 use Rattle.rows.specs.declared.tasks.Numbers.{Numbers}
 use Rattle.rows.specs.declared.tasks.Row.{Row}
 use Rattle.rows.specs.Answers.{Answer, gives, refuses}
@@ -14,6 +16,11 @@ use Rattle.admission.specs.declared.calls.Reply.TheVariants.{Done, Found as Foun
 pub data Told : Type 0 where
   done : Told
   row_found : Numbers → Found → Told
+
+-- a refusal of a bench tells a rank: overload does, the smallest whose row would miss; every other one tells 0
+abbrev pub tells_rank : Refusal → Bool
+tells_rank Overload = true
+tells_rank _ = false
 
 -- the answer that a reply is, in numbers: what is told, or the refusal and the rank that it tells
 abbrev pub answer_of : Reply → Answer Told

@@ -1,7 +1,9 @@
 // The calls that a bench takes, as values, and what it replies.
 ghost use Rattle.std.specs.Prelude.{◌≡◌};
+ghost use Rattle.admission.specs.Promises.{OthersTellZero};
+ghost use Rattle.admission.specs.Replies.{tells_rank};
 
-use rows::{Fault, Finding, FrameNumbers, Numbers, Row};
+use rows::{Fault, Finding, FrameNumbers, Numbers, Refusal, Row};
 
 /// A call to a bench (docs/RULES.md, The bench). Ranks count from 1, the highest priority.
 #[derive(Clone, Copy, PartialEq, Eq, Debug)]
@@ -22,6 +24,16 @@ pub enum Reply {
     Done,
     Found(Row, Finding),
     Refused(Fault),
+}
+
+/// Whether a refusal of a bench tells a rank: 11, overload, does, the smallest whose row would miss;
+/// every other one tells 0 (docs/REFUSALS.md).
+#[tactic(auto, using(crate::proofs::RanksTold::others_tell_zero))]
+pub fn tells_rank(refusal: Refusal) -> bool
+    ensures answered { result ≡ tells_rank refusal }
+    ensures others { OthersTellZero }
+{
+    matches!(refusal, Refusal::Overload)
 }
 
 impl From<Result<(), Fault>> for Reply {

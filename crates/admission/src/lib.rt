@@ -7,5 +7,5 @@ mod keeping;
 mod playing;
 
 pub use benches::Bench;
-pub use calls::{Call, Reply};
+pub use calls::{Call, Reply, tells_rank};
 pub use playing::play;

@@ -18,8 +18,14 @@ pub bounds-as_slice-rank : goal.bounds-as_slice-rank
 bounds-as_slice-rank g c =
     let kept = c.self.inside.kept in
     let rank = ranked _ c.args.rank c.in_ok-check_rank.ensures in
-    omega (arith, rank.0, rank.1, ap length c.rows-rows.ensures.answered, ap length c.as_slice.ensures.value,
-    many_kept (g.B.Bound.meaning c.self.inside.bound) kept.table.frame kept.table.rows kept.findings.items c.self.invariant.counted)
+    omega (
+      arith,
+      rank.0,
+      rank.1,
+      ap length c.rows-rows.ensures.answered,
+      ap length c.as_slice.ensures.value,
+      many_kept (g.B.Bound.meaning c.self.inside.bound) kept.table.frame kept.table.rows kept.findings.items c.self.invariant.counted,
+    )
 
 pub returns-clause-does : goal.returns-clause-does
 returns-clause-does g c =

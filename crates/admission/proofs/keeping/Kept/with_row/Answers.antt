@@ -32,8 +32,13 @@ count_from-requires-clause-within g c =
 pub count_from-requires-clause-size : goal.count_from-requires-clause-size
 count_from-requires-clause-size g c =
     let kept = c.args.self.now in
-    omega (arith, c.one_more-findings.ensures.size, many_kept (g.B.Bound.meaning c.args.bound.now) kept.table.frame kept.table.rows kept.findings.items c.requires.counted,
-    ap (λ b. length b.rows) (with_is g c), length_insert kept.table.rows (c.args.rank - 1) c.args.row (omega (arith, c.requires.low, c.requires.high)))
+    omega (
+      arith,
+      c.one_more-findings.ensures.size,
+      many_kept (g.B.Bound.meaning c.args.bound.now) kept.table.frame kept.table.rows kept.findings.items c.requires.counted,
+      ap (λ b. length b.rows) (with_is g c),
+      length_insert kept.table.rows (c.args.rank - 1) c.args.row (omega (arith, c.requires.low, c.requires.high)),
+    )
 
 pub count_from-requires-clause-known : goal.count_from-requires-clause-known
 count_from-requires-clause-known g c =
