@@ -20,6 +20,7 @@ use Rattle.rows.specs.Lists.{at_rank, first_of}
 use Rattle.rows.specs.Ranks.{is_rank}
 use Rattle.rows.specs.Times.{horizon}
 use Rattle.rows.proofs.Checks.{first_passes, given_is, gives_any, passes_on, places_pass_on, refuses_any}
+use Rattle.rows.proofs.Ranked.{rank_within}
 use Rattle.rows.proofs.SameRow.{same_row}
 use Rattle.bounds.specs.Meaning.{Meaning}
 use Rattle.rows.specs.Found.{Found, tells, is_met, is_miss}
@@ -33,7 +34,6 @@ use Rattle.admission.specs.Benches.{Held, bench, Does}
 use Rattle.admission.specs.Books.{checks_of, step, told, without}
 use Rattle.admission.specs.Replies.{Told, answer_of, as_done, done, row_found}
 use Rattle.admission.proofs.Called.{admits, newcomer_is}
-use Rattle.admission.proofs.Entry.{rank_within}
 use Rattle.admission.proofs.Steps.{parts_at, step_answers, step_given, step_refused}
 use Rattle.exchanges.specs.Exchanged.{exchange_checks}
 
