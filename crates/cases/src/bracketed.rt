@@ -1,16 +1,17 @@
 // Rows counted in exact steps and by a bound, side by side.
 use crate::agreeing::agree;
 use crate::bounded::tail;
-use crate::building::{meets, misses, row};
+use crate::building::{meets, misses, row, table};
 use bounds::{ExactSteps, LinearTail};
 use brackets::{Counts, count_both, least_accuracy, slow_rest};
 use findings::find;
 use rows::{Fault, Finding, Refusal};
+use std::test::Fail;
 
 // What is found about E in exact steps and by a linear tail, and the gap between.
 fn both(tail: &LinearTail) -> Result<(Finding, Finding, Option<u32>), Fault> {
-    let above = [row(1, 4, 4, 0), row(2, 6, 6, 1)];
-    let both = count_both(tail, 12, &row(3, 12, 12, 0), &above)?;
+    let above = table(12, &[row(1, 4, 4, 0), row(2, 6, 6, 1)])?;
+    let both = count_both(tail, &row(3, 12, 12, 0), &above)?;
     Ok((both.exact, both.bounded, both.gap()))
 }
 
@@ -44,14 +45,15 @@ fn gaps_of_any_counts(rt: HostRuntime) {
 
 // A row below one that takes the whole processor meets by no tail.
 #[test]
-fn least_accuracies(rt: HostRuntime) {
+fn least_accuracies(rt: HostRuntime) -> Result<(), Fail> {
     let (a, b) = (row(1, 4, 4, 0), row(2, 6, 6, 1));
     let least = [
-        least_accuracy(12, &b, &[a]),
-        least_accuracy(12, &row(3, 12, 12, 0), &[a, b]),
-        least_accuracy(5, &row(1, 5, 5, 0), &[row(1, 1, 1, 0)]),
+        least_accuracy(&b, &table(12, &[a])?),
+        least_accuracy(&row(3, 12, 12, 0), &table(12, &[a, b])?),
+        least_accuracy(&row(1, 5, 5, 0), &table(5, &[row(1, 1, 1, 0)])?),
     ];
     agree(&rt, least, [Ok(Some(1)), Ok(Some(3)), Ok(None)]);
+    Ok(())
 }
 
 // On a processor of speed 3/4 B rests one instant later than in exact steps at full speed, and E
@@ -81,35 +83,33 @@ fn rests_on_a_slower_processor(rt: HostRuntime) {
 }
 
 #[test]
-fn questions_that_are_refused(rt: HostRuntime) {
-    let on = row(1, 6, 6, 0);
-    let off = row(1, 5, 5, 0);
+fn questions_that_are_refused(rt: HostRuntime) -> Result<(), Fail> {
+    let (on, off) = (row(1, 6, 6, 0), row(1, 5, 5, 0));
+    let (full, two) = (table(6, &[on; 32])?, table(6, &[on, on])?);
+    let refused = (Refusal::FullTable.at(0), Refusal::OffFrame.at(3));
     let both = [
-        count_both(&ExactSteps, 0, &on, &[off]),
-        count_both(&ExactSteps, 6, &on, &[on, off]),
+        count_both(&ExactSteps, &off, &full),
+        count_both(&ExactSteps, &off, &two),
     ];
-    let (frame, second) = (Refusal::BadFrame.at(0), Refusal::OffFrame.at(2));
-    agree(&rt, both, [Err(frame), Err(second)]);
-    let least = [
-        least_accuracy(6, &off, &[on; 32]),
-        least_accuracy(6, &off, &[on, on]),
-    ];
-    let (full, third) = (Refusal::FullTable.at(0), Refusal::OffFrame.at(3));
-    agree(&rt, least, [Err(full), Err(third)]);
+    agree(&rt, both, [Err(refused.0), Err(refused.1)]);
+    let least = [least_accuracy(&off, &full), least_accuracy(&off, &two)];
+    agree(&rt, least, [Err(refused.0), Err(refused.1)]);
+    Ok(())
 }
 
 #[test]
-fn rows_above_in_another_order_and_one_fewer(rt: HostRuntime) {
+fn rows_above_in_another_order_and_one_fewer(rt: HostRuntime) -> Result<(), Fail> {
     let (a, b) = (row(1, 4, 4, 0), row(2, 6, 6, 1));
     let e = row(3, 12, 12, 0);
     let found = [
-        find(&tail(&rt, 3), 12, &e, &[b, a]),
-        find(&ExactSteps, 12, &e, &[b]),
-        find(&ExactSteps, 12, &e, &[a]),
+        find(&tail(&rt, 3), &e, &table(12, &[b, a])?),
+        find(&ExactSteps, &e, &table(12, &[b])?),
+        find(&ExactSteps, &e, &table(12, &[a])?),
     ];
     agree(
         &rt,
         found,
         [Ok(meets(11, 4)), Ok(meets(5, 1)), Ok(meets(4, 1))],
     );
+    Ok(())
 }

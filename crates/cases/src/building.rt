@@ -1,9 +1,9 @@
-// Short ways to write down rows, findings and headings.
+// Short ways to write down rows, tables, findings and headings.
 ghost use Rattle.std.specs.Prelude.{◌+◌, ◌≤◌};
 ghost use Rattle.rows.specs.Times.{horizon};
 
 use leaves::HeadingNumbers;
-use rows::{Finding, Numbers, Row, Verdict};
+use rows::{Fault, Finding, FrameNumbers, Numbers, Row, Table, Verdict};
 
 // Four plain numbers: work, deadline, period and jitter.
 pub(crate) fn numbers(work: u32, deadline: u32, period: u32, jitter: u32) -> Numbers {
@@ -28,6 +28,11 @@ pub(crate) fn row(work: u32, deadline: u32, period: u32, jitter: u32) -> Row
         period,
         jitter,
     }
+}
+
+// Rows on a frame of so many ticks, as a table.
+pub(crate) fn table(ticks: u32, rows: &[Row]) -> Result<Table, Fault> {
+    Table::of(&FrameNumbers { ticks }.judge()?, rows)
 }
 
 // A finding of a first rest.

@@ -1,9 +1,10 @@
-// Which four numbers are a row, and why others are not.
+// Which four numbers are a row and which number is a frame, and why others are not.
 ghost use Rattle.std.specs.Prelude.{◌≡◌, ◌↔◌, IsTrue};
 
 use crate::agreeing::agree;
 use crate::building::{numbers, row};
-use rows::{Fault, HORIZON, Numbers, Refusal, is_frame};
+use rows::{Fault, Flaw, FrameNumbers, HORIZON, Numbers, Refusal, is_frame};
+use std::test::Fail;
 
 // The numbers of the row that four numbers make, judged for position 7.
 fn judged(four: Numbers) -> Result<Numbers, Fault> {
@@ -45,7 +46,10 @@ fn refusals_of_numbers(rt: HostRuntime) {
 
 // The numbers of the row that four numbers make on a frame of 12, judged for position 7.
 fn judged_on_12(four: Numbers) -> Result<Numbers, Fault> {
-    Ok(four.judge_on(12, 7)?.numbers())
+    Ok(
+        four.judge_on(&FrameNumbers { ticks: 12 }.judge()?, 7)?
+            .numbers(),
+    )
 }
 
 #[test]
@@ -77,10 +81,10 @@ fn numbers_at_the_top_of_their_type(rt: HostRuntime) {
 // Whether four numbers are idle, have no window, a late deadline, and a long period.
 fn flaws(four: Numbers) -> [bool; 4] {
     [
-        four.is_idle(),
-        four.has_no_window(),
-        four.has_late_deadline(),
-        four.has_long_period(),
+        four.has(&Flaw::Idle),
+        four.has(&Flaw::Cramped),
+        four.has(&Flaw::Late),
+        four.has(&Flaw::Long),
     ]
 }
 
@@ -117,8 +121,40 @@ fn frames_and_steps(rt: HostRuntime) {
     agree(&rt, frames, [false, true, true, false]);
     let b = row(2, 6, 6, 1);
     agree(&rt, [b.steps(0), b.steps(5), b.steps(6)], [2, 2, 4]);
-    let stands = (b.stands_on(12), b.stands_on(9), b.window());
-    agree(&rt, stands, (true, false, 5));
+    let divides = (b.divides(12), b.divides(9), b.window());
+    agree(&rt, divides, (true, false, 5));
+}
+
+// The numbers of the frame of so many ticks.
+fn framed(ticks: u32) -> Result<FrameNumbers, Fault> {
+    Ok(FrameNumbers { ticks }.judge()?.numbers())
+}
+
+#[test]
+fn frames_judged(rt: HostRuntime) {
+    let bad = Err(Refusal::BadFrame.at(0));
+    let refused = [framed(0), framed(HORIZON + 1), framed(u32::MAX)];
+    agree(&rt, refused, [bad; 3]);
+    let frames = [framed(1), framed(HORIZON)];
+    let ticks = [1, HORIZON];
+    agree(&rt, frames, ticks.map(|ticks| Ok(FrameNumbers { ticks })));
+}
+
+// What numbers are told that are checked for being off a frame of 12, and whether a row stands on it.
+#[test]
+fn rows_beside_a_frame(rt: HostRuntime) -> Result<(), Fail> {
+    let frame = FrameNumbers { ticks: 12 }.judge()?;
+    let off = Flaw::Off(frame);
+    let checked = [
+        numbers(0, 9, 6, 9).check(&off, 7),
+        numbers(1, 5, 5, 0).check(&off, 7),
+        numbers(1, 5, 0, 0).check(&off, 7),
+    ];
+    let fault = Refusal::OffFrame.at(7);
+    agree(&rt, checked, [Ok(()), Err(fault), Err(fault)]);
+    let stand = [row(1, 6, 6, 0), row(1, 5, 5, 0)].map(|row| row.stands_on(&frame));
+    agree(&rt, (stand, frame.ticks()), ([true, false], 12));
+    Ok(())
 }
 
 // Whether two refusals are one: the equality that is derived decides it.

@@ -24,6 +24,8 @@ mod searched;
 #[cfg(test)]
 mod surveyed;
 #[cfg(test)]
+mod tabled;
+#[cfg(test)]
 mod worked_leaf;
 #[cfg(test)]
 mod written;

@@ -4,7 +4,7 @@ use crate::agreeing::agree;
 use crate::bounded::tail;
 use crate::building::{meets, misses, numbers};
 use bounds::{Bound, ExactSteps, Supplied};
-use rows::{Fault, Finding, HORIZON, Numbers, Refusal};
+use rows::{Fault, Finding, FrameNumbers, HORIZON, Numbers, Refusal};
 use tables::survey;
 
 // The worked table: A, B and E, as plain numbers.
@@ -29,21 +29,21 @@ pub(crate) const TABLE: [Numbers; 3] = [
     },
 ];
 
-// What a survey by a bound answers, and its list of so many places afterwards.
+// What a survey by a bound on a frame of so many ticks answers, and its list of so many places afterwards.
 pub(crate) fn surveyed<B: Bound, const N: usize>(
     bound: &B,
-    frame: u32,
+    ticks: u32,
     table: &[Numbers],
 ) -> (Result<usize, Fault>, [Finding; N]) {
     let mut list = [misses(7); N];
-    let answer = survey(bound, frame, table, &mut list);
+    let answer = survey(bound, FrameNumbers { ticks }, table, &mut list);
     (answer, list)
 }
 
 // What a survey in exact steps answers, and the first two places of its list of three afterwards.
-fn answered(frame: u32, table: &[Numbers]) -> (Result<usize, Fault>, Finding, Finding) {
+fn answered(ticks: u32, table: &[Numbers]) -> (Result<usize, Fault>, Finding, Finding) {
     let mut list = [misses(7), misses(8), misses(9)];
-    let answer = survey(&ExactSteps, frame, table, &mut list);
+    let answer = survey(&ExactSteps, FrameNumbers { ticks }, table, &mut list);
     (answer, list[0], list[1])
 }
 
@@ -87,12 +87,13 @@ fn places(list: &[Finding; 34]) -> [Finding; 4] {
 #[test]
 fn as_many_rows_as_may_stand(rt: HostRuntime) {
     let mut list = [misses(7); 34];
+    let frame = FrameNumbers { ticks: 32 };
     let table = [numbers(1, 32, 32, 0); 32];
-    let answer = survey(&ExactSteps, 32, &table, &mut list);
+    let answer = survey(&ExactSteps, frame, &table, &mut list);
     let found = [meets(1, 1), meets(31, 1), meets(32, 1), misses(7)];
     agree(&rt, (answer, places(&list)), (Ok(32), found));
     let crowd = [numbers(0, 0, 0, 0); 33];
-    let answer = survey(&ExactSteps, 32, &crowd, &mut list);
+    let answer = survey(&ExactSteps, frame, &crowd, &mut list);
     let full = Refusal::FullTable.at(0);
     agree(&rt, (answer, places(&list)), (Err(full), found));
 }
@@ -196,8 +197,8 @@ static REFUSED: [(u32, &[Numbers], Refusal, u32); 16] = [
 
 #[test]
 fn refusals_in_their_order(rt: HostRuntime) {
-    for &(frame, table, refusal, at) in &REFUSED {
+    for &(ticks, table, refusal, at) in &REFUSED {
         let wanted = (Err(refusal.at(at)), misses(7), misses(8));
-        agree(&rt, answered(frame, table), wanted);
+        agree(&rt, answered(ticks, table), wanted);
     }
 }

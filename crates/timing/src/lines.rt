@@ -2,7 +2,7 @@
 use crate::works::{Action, Work};
 use anyhow::{Context, bail, ensure};
 use bounds::{LinearTail, Supplied};
-use rows::Row;
+use rows::{FrameNumbers, Row};
 use std::alloc::Global;
 use tallies::{numbers, row_list};
 
@@ -10,7 +10,7 @@ use tallies::{numbers, row_list};
 #[derive(Debug, Drop)]
 pub(crate) enum Line {
     Work(Work),
-    Table(u32),
+    Table(FrameNumbers),
     Row(Row),
 }
 
@@ -19,7 +19,10 @@ impl Line {
     pub(crate) fn parse(alloc: Global, text: &str) -> anyhow::Result<Line> {
         match text.split_once(' ') {
             Some(("work", rest)) => Ok(Line::Work(work(alloc, rest)?)),
-            Some(("table", rest)) => Ok(Line::Table(rest.parse().context("reading a frame")?)),
+            Some(("table", rest)) => {
+                let ticks = rest.parse().context("reading a frame")?;
+                Ok(Line::Table(FrameNumbers { ticks }))
+            }
             Some(("row", rest)) => Ok(Line::Row(row(alloc, rest)?)),
             _ => bail!("a line begins with work, table or row: {text:?}"),
         }

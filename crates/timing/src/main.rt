@@ -58,7 +58,7 @@ fn run(rt: &HostRuntime) -> anyhow::Result<()> {
             }
         } else {
             let work = work.as_mut().context("no work before its tables")?;
-            work.add(alloc, &line)?;
+            work.add(&line)?;
         }
     }
     match &work {

@@ -1,10 +1,10 @@
 // Surveys of many tables, timed.
 use crate::digests::with_findings;
 use crate::outcomes::{NO_FINDINGS, Outcome};
-use crate::works::{Table, Work};
+use crate::works::Work;
 use bounds::Bound;
 use findings::recount;
-use rows::{Fault, MOST_ROWS, count_met};
+use rows::{Fault, MOST_ROWS, Table, count_met};
 use std::rt::Clock;
 use std::time::Instant;
 
@@ -14,8 +14,8 @@ fn survey_round<B: Bound>(bound: &B, tables: &[Table], digest: u64) -> Result<(u
     let mut met: usize = 0;
     let mut digest = digest;
     for table in tables {
-        recount(bound, table.frame, &table.rows, 0, &mut list)?;
-        let findings = &list[..table.rows.len().min(MOST_ROWS)];
+        recount(bound, table, 0, &mut list)?;
+        let findings = &list[..table.len().min(MOST_ROWS)];
         digest = with_findings(digest, findings);
         met = met.saturating_add(count_met(findings));
     }

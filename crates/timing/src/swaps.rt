@@ -1,19 +1,19 @@
 // Swaps on a full bench, timed.
 use crate::digests::with_findings;
 use crate::outcomes::Outcome;
-use crate::works::{Table, Work};
+use crate::works::Work;
 use admission::Bench;
 use anyhow::bail;
 use bounds::Bound;
-use rows::{Fault, Numbers, count_met};
+use rows::{Fault, Numbers, Table, count_met};
 use std::rt::Clock;
 use std::time::Instant;
 
 // A bench on which the rows of a table stand.
 fn filled<B: Bound + Drop>(bound: B, table: &Table) -> Result<Bench<B>, Fault> {
     let mut bench = Bench::new(bound);
-    bench.set_frame(table.frame)?;
-    for (i, row) in table.rows.iter().enumerate() {
+    bench.set_frame(table.frame().numbers())?;
+    for (i, row) in table.rows().iter().enumerate() {
         bench.admit(i.saturating_add(1), row.numbers())?;
     }
     Ok(bench)

@@ -2,8 +2,7 @@
 use crate::lines::Line;
 use anyhow::{Context, bail};
 use bounds::Supplied;
-use rows::Row;
-use std::alloc::Global;
+use rows::Table;
 
 /// What is done with the tables of a work: each is surveyed, or the one table stands on a bench on which
 /// the row at a rank is dismissed and admitted again.
@@ -11,13 +10,6 @@ use std::alloc::Global;
 pub(crate) enum Action {
     Survey,
     Swap(usize),
-}
-
-/// A frame and rows in rank order.
-#[derive(Debug, Drop)]
-pub(crate) struct Table {
-    pub(crate) frame: u32,
-    pub(crate) rows: Vec<Row>,
 }
 
 /// A work: its rounds are timed as one.
@@ -33,24 +25,18 @@ pub(crate) struct Work {
 impl Work {
     /// How many rows its tables have.
     pub(crate) fn rows(&self) -> usize {
-        self.tables.iter().fold(
-            0,
-            |rows: usize, table| rows.saturating_add(table.rows.len()),
-        )
+        self.tables
+            .iter()
+            .fold(0, |rows: usize, table| rows.saturating_add(table.len()))
     }
 
     /// Adds what a line after that of the work tells: a table, or a row of the last one.
-    pub(crate) fn add(&mut self, alloc: Global, line: &Line) -> anyhow::Result<()> {
+    pub(crate) fn add(&mut self, line: &Line) -> anyhow::Result<()> {
         match line {
-            Line::Table(frame) => {
-                self.tables.push(Table {
-                    frame: *frame,
-                    rows: Vec::new(alloc),
-                })?;
-            }
+            Line::Table(frame) => self.tables.push(Table::new(&frame.judge()?))?,
             Line::Row(row) => {
                 let table = self.tables.last_mut().context("no table before its rows")?;
-                table.rows.push(*row)?;
+                table.put_in(table.len() + 1, *row)?;
             }
             Line::Work(_) => bail!("a work has no works"),
         }

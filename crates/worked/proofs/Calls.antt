@@ -2,6 +2,8 @@
 use Rattle.std.proofs.Common.{◌≡◌, List, [], ◌∷◌, refl, ap, ◌∙◌}
 use Rattle.rows.specs.declared.refusals.Refusal.TheVariants.{Overload}
 use Rattle.rows.specs.Answers.{Answer, gives, refuses}
+use Rattle.rows.specs.Books.{Book, book}
+use Rattle.rows.specs.Frames.{frame_of}
 use Rattle.rows.specs.Judging.{plain}
 use Rattle.rows.proofs.SameRow.{row_of_plain}
 use Rattle.bounds.specs.Instants.{least, count}
@@ -9,7 +11,7 @@ use Rattle.bounds.specs.Supplied.{linear_tail}
 use Rattle.findings.specs.Findings.{first_rest, stop, points}
 use Rattle.admission.specs.declared.calls.Call.{Call}
 use Rattle.admission.specs.declared.calls.Call.TheVariants.{Frame, Admit, Dismiss, Inquire}
-use Rattle.admission.specs.Books.{Book, book, first_book, step}
+use Rattle.admission.specs.Books.{first_book, step}
 use Rattle.admission.specs.Replies.{Told, done, row_found}
 use Rattle.admission.specs.Runs.{book_from, answers_from}
 use Rattle.worked.specs.Table.{meets, row_a, row_b, row_e, worked_calls}
@@ -29,21 +31,21 @@ then {calls = calls} {a = a} first later = record {
 
 -- the books that the calls come to
 abbrev empty : Book
-empty = book 12 []
+empty = book (frame_of 12) []
 
 abbrev with_a : Book
-with_a = book 12 (row_a ∷ [])
+with_a = book (frame_of 12) (row_a ∷ [])
 
 abbrev with_ab : Book
-with_ab = book 12 (row_a ∷ row_b ∷ [])
+with_ab = book (frame_of 12) (row_a ∷ row_b ∷ [])
 
 abbrev with_b : Book
-with_b = book 12 (row_b ∷ [])
+with_b = book (frame_of 12) (row_b ∷ [])
 
 abbrev with_be : Book
-with_be = book 12 (row_b ∷ row_e ∷ [])
+with_be = book (frame_of 12) (row_b ∷ row_e ∷ [])
 
-frame_set : step (linear_tail 2) first_book (Frame 12) ≡ (empty, gives done)
+frame_set : step (linear_tail 2) first_book (Frame (frame_of 12)) ≡ (empty, gives done)
 frame_set = refl
 
 a_admitted : step (linear_tail 2) empty (Admit 1 (plain row_a)) ≡ (with_a, gives done)

@@ -4,7 +4,9 @@ use Rattle.std.proofs.Common.{lit≤}
 use Rattle.rows.specs.declared.refusals.Refusal.TheVariants.{Overload}
 use Rattle.rows.specs.declared.tasks.Row.{Row}
 use Rattle.rows.specs.Answers.{gives, refuses}
+use Rattle.rows.specs.Books.{book}
 use Rattle.rows.specs.Counting.{steps}
+use Rattle.rows.specs.Frames.{frame_of}
 use Rattle.rows.specs.Judging.{plain}
 use Rattle.bounds.specs.Meaning.{Meaning}
 use Rattle.bounds.specs.Supplied.{exact_steps, linear_tail}
@@ -14,7 +16,6 @@ use Rattle.findings.specs.Tables.{findings_of}
 use Rattle.brackets.specs.Bracketing.{slow_rest}
 use Rattle.admission.specs.declared.calls.Call.{Call}
 use Rattle.admission.specs.declared.calls.Call.TheVariants.{Frame, Admit, Dismiss, Inquire}
-use Rattle.admission.specs.Books.{book}
 use Rattle.admission.specs.Replies.{done, row_found}
 use Rattle.admission.specs.Runs.{book_after, answers_to}
 
@@ -59,7 +60,7 @@ row_e = record {
 
 -- the finding about a row below others on the frame of 12
 abbrev pub found : Meaning → Row → List Row → Found
-found m r above = row_finding m 12 r above
+found m r above = row_finding m (frame_of 12) r above
 
 -- a first rest with the points tested
 abbrev pub meets : ℕ → ℕ → Found
@@ -72,7 +73,7 @@ misses points = record { rest = None; points = points }
 -- calls to a bench: the frame, A and B in ranks 1 and 2, E below them; then A leaves, E comes below B, and is asked for
 abbrev pub worked_calls : List Call
 worked_calls =
-    Frame 12
+    Frame (frame_of 12)
     ∷ Admit 1 (plain row_a)
     ∷ Admit 2 (plain row_b)
     ∷ Admit 3 (plain row_e)
@@ -91,9 +92,9 @@ pub record Worked : Type 0 where
   pub tail_2_e : found (linear_tail 2) row_e (row_a ∷ row_b ∷ []) ≡ misses 3
   pub tail_3_e : found (linear_tail 3) row_e (row_a ∷ row_b ∷ []) ≡ meets 11 4
   -- the whole table, in exact steps and by the tail of accuracy 3
-  pub table_exact : findings_of exact_steps 12 (row_a ∷ row_b ∷ row_e ∷ [])
+  pub table_exact : findings_of exact_steps (frame_of 12) (row_a ∷ row_b ∷ row_e ∷ [])
       ≡ meets 1 1 ∷ meets 3 1 ∷ meets 10 4 ∷ []
-  pub table_tail_3 : findings_of (linear_tail 3) 12 (row_a ∷ row_b ∷ row_e ∷ [])
+  pub table_tail_3 : findings_of (linear_tail 3) (frame_of 12) (row_a ∷ row_b ∷ row_e ∷ [])
       ≡ meets 1 1 ∷ meets 3 1 ∷ meets 11 4 ∷ []
   -- in exact steps at speed 3/4
   pub slow_b : slow_rest 3 row_b (row_a ∷ []) ≡ Some 4
@@ -115,4 +116,4 @@ pub record Worked : Type 0 where
       ∷ gives done
       ∷ gives (row_found (plain row_e) (meets 5 1))
       ∷ []
-  pub bench_book : book_after (linear_tail 2) worked_calls ≡ book 12 (row_b ∷ row_e ∷ [])
+  pub bench_book : book_after (linear_tail 2) worked_calls ≡ book (frame_of 12) (row_b ∷ row_e ∷ [])

@@ -4,15 +4,20 @@ use admission::{Call, Reply, play};
 use bounds::Bound;
 use brackets::{count_both, least_accuracy};
 use findings::{Finding, Verdict, response_time};
-use rows::Row;
+use rows::{Fault, Row, Table};
 use tables::survey;
 
 // The names of the three rows, in rank order.
 const NAMES: [&str; 3] = ["A", "B", "E"];
 
+// Rows on the frame of the worked table, as a table.
+fn table_of(rows: &[Row]) -> Result<Table, Fault> {
+    Table::of(&FRAME.judge()?, rows)
+}
+
 // The rows by rank, with their four numbers and their windows.
 pub(crate) fn print_rows(rt: &HostRuntime, rows: &[Row; 3]) -> anyhow::Result<()> {
-    println!(rt; "frame {FRAME}")?;
+    println!(rt; "frame {}", FRAME.ticks)?;
     println!(rt; "rank  task  work  deadline  period  jitter  window")?;
     for (i, row) in rows.iter().enumerate() {
         let rank = i + 1;
@@ -37,11 +42,7 @@ pub(crate) fn print_survey<B: Bound>(
     println!(rt; "{title}")?;
     println!(rt; "rank  task  first rest  response  points")?;
     let table = [rows[0].numbers(), rows[1].numbers(), rows[2].numbers()];
-    let unused = Finding {
-        verdict: Verdict::Misses,
-        points: 0,
-    };
-    let mut findings = [unused; 3];
+    let mut findings = [Finding::default(); 3];
     survey(bound, FRAME, &table, &mut findings)?;
     for (i, finding) in findings.iter().enumerate() {
         let rank = i + 1;
@@ -74,7 +75,7 @@ pub(crate) fn print_both<B: Bound>(
     for (i, row) in rows.iter().enumerate() {
         let rank = i + 1;
         let name = NAMES[i];
-        let counts = count_both(bound, FRAME, row, &rows[0..i])?;
+        let counts = count_both(bound, row, &table_of(&rows[0..i])?)?;
         let gap = counts.gap().unwrap_or(0);
         match (counts.exact.verdict, counts.bounded.verdict) {
             (Verdict::Meets(exact), Verdict::Meets(bounded)) => println!(rt;
@@ -97,7 +98,7 @@ pub(crate) fn print_accuracies(rt: &HostRuntime, rows: &[Row; 3]) -> anyhow::Res
     for (i, row) in rows.iter().enumerate() {
         let rank = i + 1;
         let name = NAMES[i];
-        match least_accuracy(FRAME, row, &rows[0..i])? {
+        match least_accuracy(row, &table_of(&rows[0..i])?)? {
             Some(accuracy) => println!(rt; "{rank:>4}  {name:<4}  {accuracy:>8}")?,
             None => println!(rt; "{rank:>4}  {name:<4}      none")?,
         }
@@ -114,7 +115,7 @@ pub(crate) fn print_response_times(rt: &HostRuntime, rows: &[Row; 3]) -> anyhow:
         let rank = i + 1;
         let name = NAMES[i];
         let deadline = row.deadline;
-        match response_time(FRAME, row, &rows[0..i])? {
+        match response_time(row, &table_of(&rows[0..i])?)? {
             Some(time) => println!(rt; "{rank:>4}  {name:<4}  {time:>8}  {deadline:>8}")?,
             None => println!(rt; "{rank:>4}  {name:<4}    misses  {deadline:>8}")?,
         }
@@ -125,7 +126,7 @@ pub(crate) fn print_response_times(rt: &HostRuntime, rows: &[Row; 3]) -> anyhow:
 // A call, with the row of its numbers where it brings one.
 fn print_call(rt: &HostRuntime, call: &Call) -> anyhow::Result<()> {
     match call {
-        Call::Frame(frame) => print!(rt; "frame {frame}")?,
+        Call::Frame(frame) => print!(rt; "frame {}", frame.ticks)?,
         Call::Admit(rank, row) => print!(rt;
             "admit {rank} {} {} {} {}",
             row.work, row.deadline, row.period, row.jitter

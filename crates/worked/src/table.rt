@@ -3,10 +3,10 @@ ghost use Rattle.std.specs.Prelude.{◌≡◌, [], ◌∷◌};
 ghost use Rattle.worked.specs.Table.{Worked, row_a, row_b, row_e, worked_calls};
 
 use admission::Call;
-use rows::Row;
+use rows::{FrameNumbers, Row};
 
 /// The frame of the worked table.
-pub const FRAME: u32 = 12;
+pub const FRAME: FrameNumbers = FrameNumbers { ticks: 12 };
 
 /// The rows of the worked table in rank order (docs/RULES.md, A worked table). What is found about
 /// them is counted by hand, and proved.
