@@ -4,10 +4,11 @@ use Rattle.std.specs.List.{AllByRecursion}
 use Rattle.std.proofs.lemmas.Bool.Decides.{nat_tests}
 use Rattle.rows.specs.declared.refusals.Refusal.TheVariants.{BadAccuracy}
 use Rattle.rows.specs.Answers.{refuses}
+use Rattle.rows.specs.Books.{Book}
 use Rattle.bounds.specs.Meaning.{Meaning, is_accuracy}
 use Rattle.bounds.specs.Supplied.{exact_steps, linear_tail}
 use Rattle.admission.specs.declared.calls.Call.{Call}
-use Rattle.admission.specs.Books.{Book, first_book, step}
+use Rattle.admission.specs.Books.{first_book, step}
 use Rattle.admission.specs.Runs.{answers_from}
 use Rattle.scripts.specs.declared.lines.Line.{Line}
 use Rattle.scripts.specs.Runs.{as_lines, script_output, AnswersCalls, CallsAreAnswered}

@@ -44,7 +44,7 @@ Plain-linear k fits =
 
 pub Plain-call : (call : Call) → FitsLine call → Plain (call_text call)
 Plain-call (Frame h) fits =
-    (omega arith, (omega arith, (omega arith, (omega arith, (omega arith, Plain-blank (decimal h) (Plain-decimal h fits))))))
+    (omega arith, (omega arith, (omega arith, (omega arith, (omega arith, Plain-blank (decimal h.ticks) (Plain-decimal h.ticks fits))))))
 Plain-call (Admit rank n) fits =
     (omega arith, (omega arith, (omega arith, (omega arith, (omega arith, Plain-blank _ (Plain-append (decimal rank) _ (Plain-decimal rank fits.0) (Plain-blank _ (Plain-numbers n fits.1))))))))
 Plain-call (Dismiss rank) fits =

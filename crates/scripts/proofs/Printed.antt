@@ -73,9 +73,9 @@ linear_reads k small =
 
 pub call_reads : (call : BenchCall) → FitsLine call → line_of true (call_text call) ≡ Call call
 call_reads (Frame h) small =
-    let p : Printed h = printed h small in
+    let p : Printed h.ticks = printed h.ticks small in
     let short : nat_lt 128 (length (call_text (Frame h))) ≡ false = le-ltb 128 (length (call_text (Frame h))) (omega (arith, p.short)) in
-    rw (short, words_of-last h p, p.read) refl
+    rw (short, words_of-last h.ticks p, p.read) refl
 call_reads (Dismiss rank) small =
     let p : Printed rank = printed rank small in
     let short : nat_lt 128 (length (call_text (Dismiss rank))) ≡ false = le-ltb 128 (length (call_text (Dismiss rank))) (omega (arith, p.short)) in

@@ -1,6 +1,7 @@
 -- What a line of a script says: its bytes, without its end, once a bound has been named or before.
 use Rattle.std.specs.Prelude.{ℕ, Bool, true, false, List, [], ◌∷◌, length, Result, Ok, Err, ◌==◌, nat_lt, slice_index, if◌then◌else◌}
 use Rattle.std.specs.Option.{option_map_or}
+use Rattle.rows.specs.Frames.{frame_of}
 use Rattle.admission.specs.declared.calls.Call.TheVariants.{Frame as SetFrame, Admit as AdmitRow, Dismiss as DismissRow, Inquire as InquireRow}
 use Rattle.scripts.specs.declared.expecting.Expected.{Expected}
 use Rattle.scripts.specs.declared.expecting.Expected.TheVariants.{ShortLine, Bound, CallName, Form as WordsOfForm, Number}
@@ -29,7 +30,7 @@ numbers_of (field ∷ fields) (word ∷ words) =
 abbrev pub line_by_numbers : Form → List ℕ → Line
 line_by_numbers Exact ns = ExactSteps
 line_by_numbers Linear ns = LinearTail (slice_index ns 0)
-line_by_numbers Frame ns = Call (SetFrame (slice_index ns 0))
+line_by_numbers Frame ns = Call (SetFrame (frame_of (slice_index ns 0)))
 line_by_numbers Admit ns =
     Call (AdmitRow (slice_index ns 0) (record { work = slice_index ns 1; deadline = slice_index ns 2; period = slice_index ns 3; jitter = slice_index ns 4 }))
 line_by_numbers Dismiss ns = Call (DismissRow (slice_index ns 0))

@@ -2,10 +2,11 @@
 use Rattle.std.specs.Prelude.{ℕ, ◌+◌, ◌-◌, ◌^◌, Bool, true, false, List, [], ◌∷◌, ◌++◌, min, if◌then◌else◌}
 use Rattle.rows.specs.declared.refusals.Refusal.TheVariants.{BadAccuracy}
 use Rattle.rows.specs.Answers.{Answer, refuses}
+use Rattle.rows.specs.Books.{Book}
 use Rattle.bounds.specs.Meaning.{Meaning, is_accuracy}
 use Rattle.bounds.specs.Supplied.{exact_steps, linear_tail}
 use Rattle.bounds.specs.Values.{meaning_of}
-use Rattle.admission.specs.Books.{Book, first_book, step}
+use Rattle.admission.specs.Books.{first_book, step}
 use Rattle.admission.specs.Replies.{Told, answer_of}
 use Rattle.scripts.specs.declared.expecting.Expected.{Expected}
 use Rattle.scripts.specs.declared.lines.Line.{Line}

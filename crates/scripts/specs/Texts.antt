@@ -1,14 +1,12 @@
 -- What is written: calls, and the answers to lines, each as the bytes of a line without its end.
-use Rattle.std.specs.Prelude.{ℕ, ◌^◌, ◌<◌, List, [], ◌∷◌, ◌++◌, Option, Some, None, codes, decimal, find, unwrap_or, ◌==◌, if◌then◌else◌}
-use Rattle.std.specs.Option.{option_map}
+use Rattle.std.specs.Prelude.{ℕ, ◌^◌, ◌<◌, List, [], ◌++◌, Option, Some, None, codes, decimal, if◌then◌else◌}
 use Rattle.rows.specs.declared.refusals.Refusal.{Refusal}
-use Rattle.rows.specs.declared.refusals.Refusal.TheVariants.{BadFrame, StandingRows, BadAccuracy, IdleRow, NoWindow, LateDeadline, LongPeriod, OffFrame, FullTable, NoRank, Overload, ShortList, CutLeaf, StrangeLetter, OutOfTurn, Miscount, BadFinding, LooseBytes, ShortBuffer, UnknownBound}
 use Rattle.rows.specs.declared.tasks.Numbers.{Numbers}
 use Rattle.rows.specs.Answers.{Answer, gives, refuses}
 use Rattle.rows.specs.Refusals.{number, words}
 use Rattle.admission.specs.declared.calls.Call.{Call}
 use Rattle.admission.specs.declared.calls.Call.TheVariants.{Frame, Admit, Dismiss, Inquire}
-use Rattle.admission.specs.Replies.{Told, done, row_found}
+use Rattle.admission.specs.Replies.{Told, done, row_found, tells_rank}
 use Rattle.scripts.specs.declared.expecting.Expected.{Expected}
 use Rattle.scripts.specs.declared.expecting.Expected.TheVariants.{ShortLine, Bound, CallName, Form, Number}
 use Rattle.scripts.specs.Forms.{field_text, form_text}
@@ -19,7 +17,7 @@ numbers_text n = decimal n.work ++ (codes " " ++ (decimal n.deadline ++ (codes "
 
 -- the line that makes a call
 abbrev pub call_text : Call → List ℕ
-call_text (Frame h) = codes "frame " ++ decimal h
+call_text (Frame h) = codes "frame " ++ decimal h.ticks
 call_text (Admit rank n) = codes "admit " ++ (decimal rank ++ (codes " " ++ numbers_text n))
 call_text (Dismiss rank) = codes "dismiss " ++ decimal rank
 call_text (Inquire rank) = codes "inquire " ++ decimal rank
@@ -41,33 +39,25 @@ pub record FitNumbers (n : Numbers) : Type 0 where
 
 -- every number of a call has 32 bits, its rank too
 abbrev pub FitsLine : Call → Type 0
-FitsLine (Frame h) = h < 2 ^ 32
+FitsLine (Frame h) = h.ticks < 2 ^ 32
 FitsLine (Admit rank n) = (rank < 2 ^ 32) × FitNumbers n
 FitsLine (Dismiss rank) = rank < 2 ^ 32
 FitsLine (Inquire rank) = rank < 2 ^ 32
-
--- the refusals, in the order of their numbers
-abbrev pub refusals : List Refusal
-refusals = BadFrame ∷ StandingRows ∷ BadAccuracy ∷ IdleRow ∷ NoWindow ∷ LateDeadline ∷ LongPeriod ∷ OffFrame ∷ FullTable ∷ NoRank ∷ Overload ∷ ShortList ∷ CutLeaf ∷ StrangeLetter ∷ OutOfTurn ∷ Miscount ∷ BadFinding ∷ LooseBytes ∷ ShortBuffer ∷ UnknownBound ∷ []
-
--- the words of the refusal that has a number
-abbrev pub words_by_number : ℕ → List ℕ
-words_by_number n = unwrap_or (option_map words (find (λ refusal. number refusal == n) refusals)) []
 
 -- what is told of a row: that it meets, and its first rest, or that it misses; and the points tested
 abbrev pub finding_text : Option ℕ → ℕ → List ℕ
 finding_text (Some rest) points = codes " meets " ++ (decimal rest ++ (codes " points " ++ decimal points))
 finding_text None points = codes " misses points " ++ decimal points
 
--- the rank that a refusal tells: only overload, 11, tells one
-abbrev pub rank_text : ℕ → ℕ → List ℕ
-rank_text n at = if n == 11 then codes " at rank " ++ decimal at else []
+-- the rank that a refusal tells, if it tells one
+abbrev pub rank_text : Refusal → ℕ → List ℕ
+rank_text r at = if tells_rank r then codes " at rank " ++ decimal at else []
 
 -- the line that answers a call
 abbrev pub answer_text : Answer Told → List ℕ
 answer_text (gives done) = codes "done"
 answer_text (gives (row_found n f)) = codes "row " ++ (numbers_text n ++ finding_text f.rest f.points)
-answer_text (refuses n at) = codes "refused " ++ (decimal n ++ (codes " " ++ (words_by_number n ++ rank_text n at)))
+answer_text (refuses r at) = codes "refused " ++ (decimal (number r) ++ (codes " " ++ (words r ++ rank_text r at)))
 
 -- what was expected where a line is no call
 abbrev pub expected_text : Expected → List ℕ

@@ -10,7 +10,7 @@ use crate::expecting::Expected;
 use crate::forms::Form;
 use crate::words::Words;
 use admission::Call;
-use rows::Numbers;
+use rows::{FrameNumbers, Numbers};
 
 // The most bytes of a line that is no comment.
 const LONGEST_LINE: usize = 128;
@@ -44,7 +44,7 @@ fn read(form: Form, words: Words) -> Result<Line, Expected>
     Ok(match form {
         Form::Exact => Line::Exact,
         Form::Linear => Line::Linear(first),
-        Form::Frame => Line::Call(Call::Frame(first)),
+        Form::Frame => Line::Call(Call::Frame(FrameNumbers { ticks: first })),
         Form::Admit => {
             let numbers = Numbers {
                 work,

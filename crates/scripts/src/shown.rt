@@ -4,8 +4,8 @@ ghost use Rattle.admission.specs.Replies.{answer_of};
 ghost use Rattle.scripts.specs.Texts.{answer_text, call_text, no_call_text};
 
 use crate::expecting::Expected;
-use admission::{Call, Reply};
-use rows::{Refusal, Verdict};
+use admission::{Call, Reply, tells_rank};
+use rows::Verdict;
 use std::fmt;
 
 /// A call, written as the line of a script that makes it: "dismiss 1".
@@ -29,7 +29,10 @@ impl fmt::Display for CallLine {
 
     fn fmt<W: fmt::Write>(&self, f: &mut fmt::Formatter<W>) -> fmt::Result {
         match self.0 {
-            Call::Frame(frame) => write!(f, "frame {frame}"),
+            Call::Frame(frame) => {
+                let ticks = frame.ticks;
+                write!(f, "frame {ticks}")
+            }
             Call::Admit(rank, numbers) => {
                 let work = numbers.work;
                 let deadline = numbers.deadline;
@@ -74,7 +77,7 @@ impl fmt::Display for ReplyLine {
                 let number = fault.refusal.number();
                 let words = fault.refusal.words();
                 let at = fault.at;
-                if fault.refusal == Refusal::Overload {
+                if tells_rank(fault.refusal) {
                     write!(f, "refused {number} {words} at rank {at}")
                 } else {
                     write!(f, "refused {number} {words}")
