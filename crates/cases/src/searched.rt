@@ -3,7 +3,8 @@ use crate::agreeing::agree;
 use crate::bounded::tail;
 use crate::building::{meets, misses, row, table};
 use bounds::ExactSteps;
-use findings::{find, response_time};
+use brackets::response_time;
+use findings::find;
 use rows::{HORIZON, Refusal};
 use std::test::Fail;
 
@@ -29,7 +30,7 @@ fn windows_of_1(rt: HostRuntime) -> Result<(), Fail> {
 fn jitter_just_below_the_period(rt: HostRuntime) -> Result<(), Fail> {
     let above = table(8, &[row(1, 8, 8, 7)])?;
     let found = find(&ExactSteps, &row(2, 8, 8, 0), &above);
-    let time = response_time(&row(2, 8, 8, 3), &above);
+    let time = response_time(&row(2, 8, 8, 3), above.rows());
     agree(&rt, (found, time), (Ok(meets(4, 2)), Ok(Some(7))));
     Ok(())
 }
@@ -42,7 +43,7 @@ fn period_1_above(rt: HostRuntime) -> Result<(), Fail> {
     let steps = find(&ExactSteps, &below, &above);
     let line = find(&tail(&rt, 3), &below, &above);
     agree(&rt, [steps, line], [Ok(misses(5)), Ok(misses(3))]);
-    agree(&rt, response_time(&below, &above), Ok(None));
+    agree(&rt, response_time(&below, above.rows()), Ok(None));
     Ok(())
 }
 
@@ -72,6 +73,19 @@ fn a_corner_that_two_rows_share_is_one_point(rt: HostRuntime) -> Result<(), Fail
     Ok(())
 }
 
+// Periods without a common multiple up to the horizon: there is no frame, and the response needs none.
+#[test]
+fn responses_with_no_frame(rt: HostRuntime) -> Result<(), Fail> {
+    let above = [row(1, 4_099, 4_099, 0), row(2, 4_111, 4_111, 1)];
+    let below = row(5, HORIZON, HORIZON, 0);
+    let times = [
+        response_time(&below, &above),
+        response_time(&row(3, 5, 7, 1), &above),
+    ];
+    agree(&rt, times, [Ok(Some(8)), Ok(None)]);
+    Ok(())
+}
+
 // Below 31 rows there is a rank for a row; below 32 there is none, whatever the row.
 #[test]
 fn refusals_in_their_order(rt: HostRuntime) -> Result<(), Fail> {
@@ -90,11 +104,10 @@ fn refusals_in_their_order(rt: HostRuntime) -> Result<(), Fail> {
         Err(Refusal::OffFrame.at(1)),
     ];
     agree(&rt, found, wanted);
-    let times = [
-        response_time(&on, &full),
-        response_time(&off, &table(6, &[on])?),
-    ];
-    let wanted = [Err(Refusal::FullTable.at(0)), Err(Refusal::OffFrame.at(2))];
-    agree(&rt, times, wanted);
+    agree(
+        &rt,
+        response_time(&on, full.rows()),
+        Err(Refusal::FullTable.at(0)),
+    );
     Ok(())
 }

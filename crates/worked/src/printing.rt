@@ -2,8 +2,8 @@
 use crate::table::{FRAME, worked_calls};
 use admission::{Call, Reply, play};
 use bounds::Bound;
-use brackets::{count_both, least_accuracy};
-use findings::{Finding, Verdict, response_time};
+use brackets::{count_both, least_accuracy, response_time};
+use findings::{Finding, Verdict};
 use rows::{Fault, Row, Table};
 use tables::survey;
 
@@ -115,7 +115,7 @@ pub(crate) fn print_response_times(rt: &HostRuntime, rows: &[Row; 3]) -> anyhow:
         let rank = i + 1;
         let name = NAMES[i];
         let deadline = row.deadline;
-        match response_time(row, &table_of(&rows[0..i])?)? {
+        match response_time(row, &rows[0..i])? {
             Some(time) => println!(rt; "{rank:>4}  {name:<4}  {time:>8}  {deadline:>8}")?,
             None => println!(rt; "{rank:>4}  {name:<4}    misses  {deadline:>8}")?,
         }
