@@ -8,3 +8,4 @@ pub mod Countable
 pub mod Loads
 pub mod Counting
 pub mod Exact
+pub mod Lent

@@ -14,7 +14,7 @@ use rows::{Fault, Finding, MOST_ROWS, Refusal, Row, Table};
 const MOST_ABOVE: usize = MOST_ROWS - 1;
 
 // What is checked of a question before anything is counted.
-fn check_question(row: &Row, above: &Table) -> Result<(), Fault>
+pub(crate) fn check_question(row: &Row, above: &Table) -> Result<(), Fault>
     ensures answered { answer (λ u. u) result
         ≡ checked (question_checks row.now above.now) tt }
     ensures few { OnOk result (length above.now.rows ≤ most_above) }

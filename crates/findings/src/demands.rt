@@ -5,7 +5,7 @@ ghost use Rattle.rows.specs.Times.{horizon};
 ghost use Rattle.bounds.specs.Answering.{corner_after};
 ghost use Rattle.bounds.specs.Instants.{IsFirst};
 ghost use Rattle.findings.specs.Asking.{most_above};
-ghost use Rattle.findings.specs.Demand.{load, above_demand, is_rest};
+ghost use Rattle.findings.specs.Demand.{load, above_demand, demand, is_rest};
 ghost use Rattle.findings.specs.Findings.{is_tested};
 ghost use Rattle.findings.specs.Countable.{CanBeCounted};
 ghost use Rattle.findings.specs.Loads.{load_of};
@@ -50,13 +50,20 @@ impl<'a, B: Bound> Load<'a, B> {
             .fold(last, |next, corner| next.min(corner))
     }
 
+    // All that is demanded up to the instant, in parts.
+    pub(crate) fn demand(&self, at: u32) -> u64
+        requires { at ≤ horizon }
+        ensures { result ≡ demand (load_of self.now) at }
+    {
+        u64::from(self.frame) * u64::from(self.own) + self.amounts(at)
+    }
+
     // Whether all that is demanded up to the instant is served by it.
     pub(crate) fn is_rest(&self, at: u32) -> bool
         requires { at ≤ horizon }
         ensures { result ≡ is_rest (load_of self.now) at }
     {
-        let demand = u64::from(self.frame) * u64::from(self.own) + self.amounts(at);
-        demand <= u64::from(self.frame) * u64::from(at)
+        self.demand(at) <= u64::from(self.frame) * u64::from(at)
     }
 
     // The first test point after the instant, for a row that may rest up to `last`.

@@ -5,11 +5,14 @@ mod asking;
 mod counting;
 mod demands;
 mod flags;
+mod lending;
 mod loads;
+mod questions;
 mod recounting;
 mod searching;
 mod skipping;
 
 pub use asking::find;
+pub use questions::Demand;
 pub use recounting::recount;
 pub use rows::{Finding, Verdict};
