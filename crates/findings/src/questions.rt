@@ -6,7 +6,7 @@ use bounds::Bound;
 use rows::{Row, Table};
 
 /// The demand of a row below a table by a bound, to be read: its amounts, the instants at which it is
-/// served, and its test points (docs/RULES.md, Demand by a bound). `of` makes it.
+/// served, and its test points (docs/RULES.md, Rests). `of` makes it.
 #[derive(Drop)]
 pub struct Demand<'a, B: Bound> {
     pub(crate) bound: &'a B,
