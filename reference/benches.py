@@ -28,38 +28,16 @@ from counts import (  # noqa: E402
     slow_rest,
     window,
 )
-from leaves import (  # noqa: E402
+from leaves import HORIZON, MOST_ACCURACY, MOST_ROWS, check_row  # noqa: E402
+from refusals import (  # noqa: E402
     BAD_ACCURACY,
     BAD_FRAME,
     FULL_TABLE,
-    HORIZON,
-    IDLE_ROW,
-    LATE_DEADLINE,
-    LONG_PERIOD,
-    MOST_ACCURACY,
-    MOST_ROWS,
-    NO_WINDOW,
-    OFF_FRAME,
-    check_row,
+    NO_RANK,
+    OVERLOAD,
+    STANDING_ROWS,
+    refused,
 )
-
-# The refusals that reading leaves does not give, and the words of all that a script can be answered with.
-STANDING_ROWS = 2
-NO_RANK = 10
-OVERLOAD = 11
-WORDS = {
-    BAD_FRAME: 'bad frame',
-    STANDING_ROWS: 'standing rows',
-    BAD_ACCURACY: 'bad accuracy',
-    IDLE_ROW: 'idle row',
-    NO_WINDOW: 'no window',
-    LATE_DEADLINE: 'late deadline',
-    LONG_PERIOD: 'long period',
-    OFF_FRAME: 'off frame',
-    FULL_TABLE: 'full table',
-    NO_RANK: 'no rank',
-    OVERLOAD: 'overload',
-}
 
 DONE = ('done',)
 
@@ -151,8 +129,7 @@ def answer_text(answer):
         return 'done'
     if answer[0] == 'refused':
         _, number, position = answer
-        told = f' at rank {position}' if number == OVERLOAD else ''
-        return f'refused {number} {WORDS[number]}{told}'
+        return refused(number) + (f' at rank {position}' if number == OVERLOAD else '')
     _, row, (rest, points) = answer
     numbers = ' '.join(str(number) for number in row)
     verdict = 'misses' if rest is None else f'meets {rest}'

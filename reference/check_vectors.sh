@@ -1,68 +1,67 @@
 #!/usr/bin/env bash
-# Makes each set of vectors anew, and what the program over them is to print, and compares them with those stored:
-# stdin and stdout in the set's folder. With --write it stores them there instead. What is printed over most sets is how
-# many vectors of each kind agree; over the scripts it is the answers themselves. The files of crates/viewings, with the lines
-# that name them and what is printed, are made and compared as a whole.
+# Makes anew, by docs/ alone, what is stored in crates/ of questions, of their answers and of what programs print, and
+# compares it with what is stored; with --write it stores it there instead. Then it looks that the table of refusals is
+# that of docs/REFUSALS.md, and that the picture in docs/ shows what is counted.
 set -euo pipefail
 
 cd "$(dirname "${BASH_SOURCE[0]}")/.."
-
-# Each set: the script that makes it, and the folder in which it is stored.
-sets="
-leaf_vectors   crates/vectors
-sheet_vectors  crates/sheet_vectors
-row_vectors    crates/row_vectors
-script_vectors crates/script_vectors
-"
 
 if [ $# -gt 1 ] || { [ $# -eq 1 ] && [ "$1" != --write ]; }; then
     echo "use: reference/check_vectors.sh [--write]" >&2
     exit 2
 fi
+write=$#
 
 made=$(mktemp -d)
 trap 'rm -rf "$made"' EXIT
 
-while read -r script stored; do
-    [ -n "$script" ] || continue
-    name=$(basename "$stored")
-    python3 "reference/$script.py" >"$made/stdin"
-    python3 "reference/$script.py" --counts >"$made/stdout"
-    lines=$(wc -l <"$made/stdin")
-
-    if [ $# -eq 1 ]; then
-        mkdir -p "$stored"
-        for file in stdin stdout; do
-            cat "$made/$file" >"$stored/$file"
-        done
-        echo "$name: $lines lines, and what is printed over them, written to $stored"
-        continue
+# store NAME FILE: what was made under a name is what stands in a file, or comes to stand there.
+store() {
+    if [ "$write" = 1 ]; then
+        mkdir -p "$(dirname "$2")"
+        cat "$made/$1" >"$2"
+    elif [ ! -f "$2" ]; then
+        echo "$2 is not there; reference/check_vectors.sh --write makes it" >&2
+        exit 1
+    elif ! cmp "$made/$1" "$2" >&2; then
+        echo "$2 is not what reference/ makes" >&2
+        exit 1
     fi
+}
 
-    for file in stdin stdout; do
-        if [ ! -f "$stored/$file" ]; then
-            echo "$name: $stored/$file is not there; reference/check_vectors.sh --write makes it" >&2
-            exit 1
-        fi
-        if ! cmp "$made/$file" "$stored/$file" >&2; then
-            echo "$name: $stored/$file is not what reference/$script.py makes" >&2
+# The questions of all kinds, and their answers.
+for kind in leaf sheet row script; do
+    python3 "reference/${kind}_vectors.py" >>"$made/questions"
+    python3 "reference/${kind}_vectors.py" --answers >>"$made/answers"
+done
+store questions crates/answers/stdin
+store answers crates/answers/stdout
+echo "answers: $(wc -l <"$made/questions") lines of questions, and $(wc -l <"$made/answers") of answers"
+
+# What programs print for the one input that is stored with each.
+python3 reference/benches.py <crates/bench/stdin >"$made/bench"
+store bench crates/bench/stdout
+python3 reference/sheets.py <crates/survey/stdin >"$made/survey"
+store survey crates/survey/stdout
+mapfile -t words <crates/yabreznul/args
+(cd crates/yabreznul/data && python3 ../../../reference/views.py "${words[@]}") >"$made/yabreznul"
+store yabreznul crates/yabreznul/stdout
+echo "bench, survey and yabreznul: what each prints"
+
+# The files of `viewings`, the lines that name them, and what is printed.
+mkdir "$made/views"
+python3 reference/view_cases.py "$made/views" 2>/dev/null
+if [ "$write" = 1 ]; then
+    python3 reference/view_cases.py
+else
+    for part in data stdin stdout; do
+        if ! diff -r "$made/views/$part" "crates/viewings/$part" >&2; then
+            echo "viewings: crates/viewings/$part is not what reference/view_cases.py makes" >&2
             exit 1
         fi
     done
-    echo "$name: $lines lines, and what is printed over them, as stored"
-done <<<"$sets"
-
-if [ $# -eq 1 ]; then
-    python3 reference/view_cases.py
-    exit
 fi
+echo "viewings: $(wc -l <"$made/views/stdin") lines, their files and what is printed"
 
-mkdir "$made/views"
-python3 reference/view_cases.py "$made/views" 2>/dev/null
-for part in data stdin stdout; do
-    if ! diff -r "$made/views/$part" "crates/viewings/$part" >&2; then
-        echo "viewings: crates/viewings/$part is not what reference/view_cases.py makes" >&2
-        exit 1
-    fi
-done
-echo "viewings: $(wc -l <"$made/views/stdin") lines, their files and what is printed, as stored"
+python3 reference/refusals.py
+python3 reference/pictures.py crates/yabreznul/data/tasks.csv --rank 3 --linear 3 <docs/demand.svg

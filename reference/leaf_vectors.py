@@ -1,21 +1,23 @@
-"""Makes the vectors of leaves: strings of bytes, each with the answer that docs/FORMAT.md gives it.
+"""Makes the stored questions about leaves: strings of bytes, which docs/FORMAT.md answers.
 
-    python3 reference/leaf_vectors.py > vectors
-    python3 reference/leaf_vectors.py --counts > counts
+    python3 reference/leaf_vectors.py > questions
+    python3 reference/leaf_vectors.py --answers > answers
 
-A line tells a vector, or several with one answer. One space stands between two words, and the answer, as
-reference/leaves.py tells it, ends the line:
+The questions are lines of bytes in uppercase hexadecimal, `-` where there is no byte, in three sections:
 
-    HEX ANSWER                      the bytes in uppercase hexadecimal (nothing where there is no byte)
-    cut LENGTH ANSWER               the first LENGTH of the bytes that were last written in hexadecimal
-    change OFFSET FIRST-LAST ANSWER those bytes with the byte at OFFSET changed to each value from FIRST to
-                                    LAST, which are in hexadecimal
+    === leaves            the bytes of each line
+    === leaves cut        those of each line cut at every length, 0 first and their own last
+    === leaves changed    those of each line with one byte changed: the first to each value from 0 to 255, then the next
 
-The same lines come each time. With --counts the script prints instead how many vectors there are of each kind
-of answer, in the words of a program with which they all agree.
+With --answers the script prints instead, below the same three lines, the answer to each string of bytes, in a line:
 
-Where this file names the answer to a vector, it was taken from docs/FORMAT.md by hand, and the reader is held
-to it.
+    refused N at P, refused N at P, refused N at P      read entry by entry, asked once more, and read as a whole
+    F .. R .. A .. Z .. +, -, + +                       the entries as reference/leaves.py tells them; `+` for the same
+                                                        bytes, filed call by call; `-` for no entry more; the same bytes
+                                                        filed by one call, and with the rows and the findings in them
+
+The same lines come each time. Where this file names the answer to some bytes, it was taken from docs/FORMAT.md by
+hand, and the reader is held to it.
 """
 
 import random
@@ -35,64 +37,59 @@ from leaves import (  # noqa: E402
     write_leaf,
     write_row,
 )
+from refusals import (  # noqa: E402
+    BAD_ACCURACY,
+    BAD_FINDING,
+    BAD_FRAME,
+    CUT_LEAF,
+    FULL_TABLE,
+    IDLE_ROW,
+    LATE_DEADLINE,
+    LONG_PERIOD,
+    LOOSE_BYTES,
+    MISCOUNT,
+    NO_WINDOW,
+    OFF_FRAME,
+    OUT_OF_TURN,
+    STRANGE_LETTER,
+    UNKNOWN_BOUND,
+    refused_at,
+)
 
 TOP = 4_294_967_295  # the largest number of 32 bits
 HALF = 2_147_483_648  # the least that would be negative if it had a sign
 
-# The refusals that reading gives, by their numbers, with their words in docs/REFUSALS.md.
-REFUSALS = {
-    1: 'bad frame',
-    3: 'bad accuracy',
-    4: 'idle row',
-    5: 'no window',
-    6: 'late deadline',
-    7: 'long period',
-    8: 'off frame',
-    9: 'full table',
-    13: 'cut leaf',
-    14: 'strange letter',
-    15: 'out of turn',
-    16: 'miscount',
-    17: 'bad finding',
-    18: 'loose bytes',
-    20: 'unknown bound',
-}
+# The refusals that reading gives.
+REFUSALS = [
+    BAD_FRAME, BAD_ACCURACY, IDLE_ROW, NO_WINDOW, LATE_DEADLINE, LONG_PERIOD, OFF_FRAME, FULL_TABLE, CUT_LEAF,
+    STRANGE_LETTER, OUT_OF_TURN, MISCOUNT, BAD_FINDING, LOOSE_BYTES, UNKNOWN_BOUND,
+]
 
-vectors = {}  # bytes to answer text, in the order in which they were added; none comes two times
-damages = []  # lines about leaves cut and changed, after those of `vectors`
-counts = {}  # how many vectors there are of each kind of answer
+questions = {}  # bytes, in the order in which they were added; none comes two times
+cut = []  # bytes of which every cut is asked about
+changed = []  # bytes of which every change is asked about
 
 
 def answer_of(data, expected=None):
-    """The answer text of the bytes; `expected` is that text where it is known beforehand."""
+    """What read_leaf answers to the bytes, as text; `expected` is that text where it is known beforehand."""
     answer = read_leaf(data)
     text = answer_text(answer)
-    if expected is not None:
-        assert text == expected, f'{data.hex()}: {text}, not {expected}'
+    assert expected in (None, text), f'{data.hex()}: {text}, not {expected}'
     # A leaf has one way to be written.
     if answer[0] == 'leaf':
         assert write_leaf(*answer[1:]) == data, data.hex()
     return text
 
 
-def tally(text, number=1):
-    """Counts vectors with an answer text, by its kind."""
-    words = text.split(' ')
-    kind = 'leaf' if words[0] == 'leaf' else f'refused {words[1]}, {REFUSALS[int(words[1])]}'
-    counts[kind] = counts.get(kind, 0) + number
-
-
 def add(data, expected=None):
-    """Adds a vector that is written out, unless it is there already."""
-    text = answer_of(data, expected)
-    if data not in vectors:
-        vectors[data] = text
-        tally(text)
+    """Adds a question, unless it is there already."""
+    answer_of(data, expected)
+    questions[data] = None
 
 
 def refuse(data, number, place):
     """Adds bytes that are refused."""
-    add(data, f'refused {number} at {place}')
+    add(data, refused_at(number, place))
 
 
 def accept(frame, bound, accuracy, rows, findings):
@@ -173,12 +170,12 @@ def full_with_finding(rank, finding):
 def sound_leaves():
     add(
         WORKED,
-        'leaf 12 1 3 rows 1 4 4 0 2 6 6 1 3 12 12 0 findings 1 1 3 1 11 4',
+        'F 12 1 3 R 1 4 4 0 R 2 6 6 1 R 3 12 12 0 A 1 1 A 3 1 A 11 4 Z 7',
     )
     accept(12, 1, 3, [], [])
     accept(12, 0, 0, [], [])
     accept(12, 0, 0, [(1, 4, 4, 0)], [(1, 1)])
-    add(TWO, 'leaf 24 1 3 rows 1 4 4 0 2 6 6 1 findings 1 1 3 1')
+    add(TWO, 'F 24 1 3 R 1 4 4 0 R 2 6 6 1 A 1 1 A 3 1 Z 5')
     accept(FULL_FRAME, 0, 0, FULL_ROWS[:31], FULL_FINDINGS[:31])
     accept(FULL_FRAME, 0, 0, FULL_ROWS, FULL_FINDINGS)
     accept(FULL_FRAME, 1, 64, FULL_ROWS, FULL_FINDINGS)
@@ -637,53 +634,29 @@ def every_entry_out_of_place():
             add(b''.join(swapped))
 
 
-# --- Leaves cut and changed: lines about the bytes written last --------------------------------------------
+# --- Leaves cut and changed everywhere ---------------------------------------------------------------------
 
 
-def write_out(data):
-    """Writes bytes out for the lines after it, and so as a vector once more."""
-    text = answer_of(data)
-    damages.append(f'{data.hex().upper()} {text}')
-    tally(text)
+def cuts_of(data):
+    """The bytes cut at every length, and whole."""
+    return [data[:length] for length in range(len(data) + 1)]
 
 
-def every_cut(data):
-    """A leaf cut at every length. Every leaf cut anywhere is refused with 13, at the length that is left."""
-    write_out(data)
-    for length in range(len(data)):
-        text = answer_of(data[:length], f'refused 13 at {length}')
-        damages.append(f'cut {length} {text}')
-        tally(text)
-
-
-def changes_at(data, offset):
-    """The answers to the bytes with the one at an offset changed, to the 255 other values in turn."""
-    for value in range(256):
-        if value != data[offset]:
-            yield value, answer_of(data[:offset] + bytes([value]) + data[offset + 1:])
-
-
-def every_change(data):
-    """A leaf with every byte changed to every other value, the values in a row that have one answer in a line."""
-    write_out(data)
-    for offset in range(len(data)):
-        runs = []  # first value, last value, answer
-        for value, text in changes_at(data, offset):
-            if runs and runs[-1][1] == value - 1 and runs[-1][2] == text:
-                runs[-1][1] = value
-            else:
-                runs.append([value, value, text])
-        assert sum(last - first + 1 for first, last, _ in runs) == 255
-        for first, last, text in runs:
-            damages.append(f'change {offset} {first:02X}-{last:02X} {text}')
-            tally(text, last - first + 1)
+def changes_of(data):
+    """The bytes with each in turn changed to each value in turn."""
+    return [
+        data[:offset] + bytes([value]) + data[offset + 1:] for offset in range(len(data)) for value in range(256)
+    ]
 
 
 def damaged_leaves():
     for rows in (0, 1, 5, 32):
-        every_cut(leaf_of(rows))
+        cut.append(leaf_of(rows))
+        # Every leaf cut anywhere is refused with 13, at the length that is left.
+        for length, data in enumerate(cuts_of(leaf_of(rows))[:-1]):
+            answer_of(data, refused_at(CUT_LEAF, length))
     for rows in (2, 3):
-        every_change(leaf_of(rows))
+        changed.append(leaf_of(rows))
 
 
 # --- Chance ------------------------------------------------------------------------------------------------
@@ -847,7 +820,7 @@ def random_bytes():
 # --- All of them -------------------------------------------------------------------------------------------
 
 
-def make_vectors():
+def make_questions():
     sound_leaves()
     damages_told_in_the_format()
     refusals_of_the_heading()
@@ -866,26 +839,41 @@ def make_vectors():
     damaged_leaves()
 
 
-def main():
-    if sys.argv[1:] not in ([], ['--counts']):
-        sys.exit('use: leaf_vectors.py [--counts]')
-    make_vectors()
-
-    # Every answer that reading can give is there.
-    kinds = ['leaf'] + [f'refused {number}, {words}' for number, words in REFUSALS.items()]
-    assert sorted(counts) == sorted(kinds)
+def check_spread(texts):
+    """Every answer that reading can give is there."""
+    kinds = [' '.join(text.split(' ')[:2]) if text.startswith('refused') else 'leaf' for text in texts]
+    counts = {kind: kinds.count(kind) for kind in set(kinds)}
+    assert set(counts) == {'leaf', *(f'refused {number}' for number in REFUSALS)}
     assert counts['leaf'] >= 30 and min(counts.values()) >= 2
 
-    if sys.argv[1:] == ['--counts']:
-        for kind in kinds:
-            print(f'{kind}: {counts[kind]} of {counts[kind]} agree')
-        total = sum(counts.values())
-        print(f'in all: {total} of {total} agree')
-        return
-    for data, text in vectors.items():
-        print(f'{data.hex().upper()} {text}')
-    for line in damages:
-        print(line)
+
+def line_of(text):
+    """The line of an answer, by the text that read_leaf gives it."""
+    return ', '.join(3 * [text]) if text.startswith('refused') else f'{text} +, -, + +'
+
+
+def main():
+    """Prints the questions, or the answers."""
+    if sys.argv[1:] not in ([], ['--answers']):
+        sys.exit('use: leaf_vectors.py [--answers]')
+    make_questions()
+    sections = [
+        ('leaves', list(questions), lambda data: [data]),
+        ('leaves cut', cut, cuts_of),
+        ('leaves changed', changed, changes_of),
+    ]
+    texts = []
+    for name, lines, strings_of in sections:
+        print(f'=== {name}')
+        for data in lines:
+            if sys.argv[1:] == []:
+                print(data.hex().upper() or '-')
+                continue
+            for string in strings_of(data):
+                texts.append(answer_of(string))
+                print(line_of(texts[-1]))
+    if texts:
+        check_spread(texts)
 
 
 if __name__ == '__main__':

@@ -10,6 +10,27 @@ prints the answer to the bytes on standard input in one line.
 
 import sys
 
+sys.dont_write_bytecode = True  # leave no cache beside the sources
+
+from refusals import (  # noqa: E402
+    BAD_ACCURACY,
+    BAD_FINDING,
+    BAD_FRAME,
+    CUT_LEAF,
+    FULL_TABLE,
+    IDLE_ROW,
+    LATE_DEADLINE,
+    LONG_PERIOD,
+    LOOSE_BYTES,
+    MISCOUNT,
+    NO_WINDOW,
+    OFF_FRAME,
+    OUT_OF_TURN,
+    STRANGE_LETTER,
+    UNKNOWN_BOUND,
+    refused_at,
+)
+
 # The horizon of docs/RULES.md: no frame, no period and no first rest lies past it.
 HORIZON = 16_777_216
 MOST_ROWS = 32
@@ -32,23 +53,6 @@ BELONGS = {
     IN_ROWS: (ROW, FINDING, END),
     IN_FINDINGS: (FINDING, END),
 }
-
-# The refusals that reading gives, by their numbers in docs/REFUSALS.md.
-BAD_FRAME = 1
-BAD_ACCURACY = 3
-IDLE_ROW = 4
-NO_WINDOW = 5
-LATE_DEADLINE = 6
-LONG_PERIOD = 7
-OFF_FRAME = 8
-FULL_TABLE = 9
-CUT_LEAF = 13
-STRANGE_LETTER = 14
-OUT_OF_TURN = 15
-MISCOUNT = 16
-BAD_FINDING = 17
-LOOSE_BYTES = 18
-UNKNOWN_BOUND = 20
 
 
 # --- Reading -----------------------------------------------------------------------------------------------
@@ -224,18 +228,15 @@ def write_leaf(frame, bound, accuracy, rows, findings):
 
 
 def answer_text(answer):
-    """An answer of read_leaf as one line: words and decimal numbers, with one space between two."""
+    """An answer of read_leaf as one line: the refusal with its place, or each entry by its letter and its numbers."""
     if answer[0] == 'refused':
-        _, number, place = answer
-        return f'refused {number} at {place}'
+        return refused_at(*answer[1:])
     _, frame, bound, accuracy, rows, findings = answer
-    words = ['leaf', frame, bound, accuracy, 'rows']
-    for row in rows:
-        words.extend(row)
-    words.append('findings')
-    for finding in findings:
-        words.extend(finding)
-    return ' '.join(str(word) for word in words)
+    entries = [('F', frame, bound, accuracy)]
+    entries += [('R', *row) for row in rows]
+    entries += [('A', *finding) for finding in findings]
+    entries.append(('Z', len(entries)))
+    return ' '.join(str(word) for entry in entries for word in entry)
 
 
 if __name__ == '__main__':

@@ -1,23 +1,23 @@
-"""Makes the vectors of single rows: a row below others, on a frame, and what is counted about it.
+"""Makes the stored questions about single rows: a row below others, on a frame, and what is counted about it.
 
-    python3 reference/row_vectors.py > vectors
-    python3 reference/row_vectors.py --counts > counts
+    python3 reference/row_vectors.py > questions
+    python3 reference/row_vectors.py --answers > answers
 
-A line is `FRAME ACCURACY C D T J C D T J .. : ANSWER`, in decimal, with one space between two words. The last four
-numbers before the colon are the row asked about, those before them the rows above it in rank order. All are valid
-rows; their periods need not divide the frame, which need not be one.
+The questions are lines below a line `=== rows`: `FRAME ACCURACY C D T J C D T J ..`, in decimal, with one space between
+two words. The last four numbers are the row asked about, those before them the rows above it in rank order. All are
+valid rows; their periods need not divide the frame, which need not be one.
 
-ANSWER is `EXACT_REST EXACT_POINTS BOUND_REST BOUND_POINTS RESPONSE LEAST SLOW`, with `-` where there is none: the
-first rest and the points tested in exact steps, those by the linear tail of the accuracy, the response time in
-exact steps, the least accuracy of a linear tail by which the row meets, and for the accuracy k the first rest in
-exact steps at speed k / (k + 1). Or ANSWER is `refused NUMBER at POSITION`, the refusal of docs/REFUSALS.md that
-find, response_time, count_both and least_accuracy give.
+With --answers the script prints instead, below the same line, the answers to each question, with commas between:
 
-The same lines come each time. With --counts the script prints instead how many vectors there are of each kind of
-answer, in the words of a program with which they all agree.
+    FINDING, FINDING, FINDING FINDING GAP, RESPONSE, LEAST, SLOW
 
-Where this file names the answer to a vector, it was taken from docs/RULES.md or docs/REFUSALS.md by hand, and the
-answers are held to it. All counts of a row are held to what docs/RULES.md says of them.
+the finding in exact steps, that by the linear tail of the accuracy, both together with the gap between them, the response
+time in exact steps, the least accuracy of a linear tail by which the row meets, and for the accuracy k the first rest in
+exact steps at speed k / (k + 1). A finding is the first rest and the points tested. `-` stands where there is none. In
+the place of each stands `refused NUMBER at POSITION` where it is refused by docs/REFUSALS.md.
+
+The same lines come each time. Where this file names the answer to a question, it was taken from docs/RULES.md or
+docs/REFUSALS.md by hand, and the answers are held to it. All counts of a row are held to what docs/RULES.md says of them.
 """
 
 import sys
@@ -36,7 +36,8 @@ from counts import (  # noqa: E402
     slow_rest,
     window,
 )
-from leaves import BAD_FRAME, FULL_TABLE, HORIZON, MOST_ROWS, OFF_FRAME, check_row  # noqa: E402
+from leaves import HORIZON, MOST_ROWS, check_row  # noqa: E402
+from refusals import BAD_FRAME, FULL_TABLE, OFF_FRAME, refused_at  # noqa: E402
 
 TOP = 4_294_967_295  # the largest number of 32 bits
 
@@ -58,7 +59,7 @@ def add(frame, accuracy, rows, expected=None):
 
 def refuse(frame, accuracy, rows, number, position):
     """Adds a vector that is refused."""
-    add(frame, accuracy, rows, f'refused {number} at {position}')
+    add(frame, accuracy, rows, refused_at(number, position))
 
 
 def random_accuracy():
@@ -73,12 +74,12 @@ FIRST, SECOND, THIRD = (1, 4, 4, 0), (2, 6, 6, 1), (3, 12, 12, 0)
 
 def worked_table():
     """The rows of docs/RULES.md. Its tables tell all of the answers by accuracy 3, and most of the others."""
-    add(12, 3, [FIRST, SECOND, THIRD], '10 4 11 4 10 3 -')
-    add(12, 1, [FIRST, SECOND, THIRD], '10 4 - 1 10 3 -')
-    add(12, 2, [FIRST, SECOND, THIRD], '10 4 - 3 10 3 -')
-    add(12, 3, [FIRST, SECOND], '3 1 3 1 4 1 4')
-    add(12, 1, [FIRST, SECOND], '3 1 4 1 4 1 -')
-    add(12, 3, [FIRST], '1 1 1 1 1 1 2')
+    add(12, 3, [FIRST, SECOND, THIRD], '10 4, 11 4, 10 4 11 4 1, 10, 3, -')
+    add(12, 1, [FIRST, SECOND, THIRD], '10 4, - 1, 10 4 - 1 -, 10, 3, -')
+    add(12, 2, [FIRST, SECOND, THIRD], '10 4, - 3, 10 4 - 3 -, 10, 3, -')
+    add(12, 3, [FIRST, SECOND], '3 1, 3 1, 3 1 3 1 0, 4, 1, 4')
+    add(12, 1, [FIRST, SECOND], '3 1, 4 1, 3 1 4 1 1, 4, 1, -')
+    add(12, 3, [FIRST], '1 1, 1 1, 1 1 1 1 0, 1, 1, 2')
     for accuracy in range(1, 65):
         add(12, accuracy, [FIRST, SECOND, THIRD])
     for accuracy in (2, 4, 5, 64):
@@ -226,8 +227,8 @@ def wide_rows():
         rows = source.table(source.between(2, 4), periods, source.utilisation(accuracy), NEARLY_LOOSE)
         add(frame, accuracy, rows)
     whole = (1, HORIZON, HORIZON, 0)
-    add(HORIZON, 1, 32 * [whole], '32 1 33 1 32 1 64')
-    add(HORIZON, 64, 32 * [whole], '32 1 32 1 32 1 33')
+    add(HORIZON, 1, 32 * [whole], '32 1, 33 1, 32 1 33 1 1, 32, 1, 64')
+    add(HORIZON, 64, 32 * [whole], '32 1, 32 1, 32 1 32 1 0, 32, 1, 33')
     for accuracy in (1, 2, 3, 64):
         rows = [(source.between(1, 20), HORIZON, HORIZON, source.below(HORIZON - 20)) for _ in range(31)]
         add(HORIZON, accuracy, rows + [(5, HORIZON, HORIZON, 1000)])
@@ -304,72 +305,74 @@ def weight(case):
     return len(rows) * window(rows[-1])
 
 
-def or_dash(number):
-    """A number in decimal, or a dash where there is none."""
-    return '-' if number is None else str(number)
+def or_dash(*numbers):
+    """Numbers in decimal, with a dash for one that is not there."""
+    return ' '.join('-' if number is None else str(number) for number in numbers)
+
+
+def slow_told(rows, accuracy):
+    """The first rest at the lower speed, for which no frame is asked, or the refusal of a table that is full."""
+    if len(rows) - 1 > MOST_ROWS - 1:
+        return refused_at(FULL_TABLE, 0)
+    return or_dash(slow_rest(rows[-1], rows[:-1], accuracy))
 
 
 def answer_of(case):
-    """The answer to a vector; its counts are checked on the way."""
+    """The answers to a question; its counts are checked on the way. Of one that is refused that refusal comes first."""
     frame, accuracy, rows = case
     refused = refusal_of(frame, rows)
     if refused is not None:
-        number, position = refused
-        return f'refused {number} at {position}'
+        return ', '.join(5 * [refused_at(*refused)] + [slow_told(rows, accuracy)])
     row, above = rows[-1], rows[:-1]
     check_case(frame, row, above, accuracy)
-    numbers = [
-        *finding(frame, EXACT_STEPS, row, above),
-        *finding(frame, LINEAR_TAILS[accuracy], row, above),
-        response_time(frame, row, above),
-        least_accuracy(frame, row, above),
-        slow_rest(row, above, accuracy),
-    ]
-    return ' '.join(or_dash(number) for number in numbers)
+    exact = finding(frame, EXACT_STEPS, row, above)
+    tail = finding(frame, LINEAR_TAILS[accuracy], row, above)
+    gap = None if exact[0] is None or tail[0] is None else tail[0] - exact[0]
+    assert gap is None or gap >= 0
+    return ', '.join([
+        or_dash(*exact),
+        or_dash(*tail),
+        or_dash(*exact, *tail, gap),
+        or_dash(response_time(frame, row, above)),
+        or_dash(least_accuracy(frame, row, above)),
+        slow_told(rows, accuracy),
+    ])
 
 
-def kind_of(case):
-    """The kind of answer to a vector, for which no more is counted than the two first rests."""
+def kind_of(answer):
+    """By which counts the row of an answer meets, or that it is refused."""
+    exact, tail = answer.split(', ')[:2]
+    return 'refused' if exact.startswith('refused') else (exact.startswith('-'), tail.startswith('-'))
+
+
+def is_as_known(answer, expected):
+    """Whether an answer is the one that is known beforehand: of a refusal, that of each call that is given the frame."""
+    return expected is None or answer == expected or answer.split(', ')[:5] == 5 * [expected]
+
+
+def line_of(case):
+    """The line of a question."""
     frame, accuracy, rows = case
-    if refusal_of(frame, rows) is not None:
-        return 'refused'
-    row, above = rows[-1], rows[:-1]
-    if first_rest(frame, LINEAR_TAILS[accuracy], row, above) is not None:
-        return 'meets by both'
-    if first_rest(frame, EXACT_STEPS, row, above) is not None:
-        return 'meets in exact steps alone'
-    return 'misses by both'
-
-
-def line_of(case, answer):
-    """The line of a vector."""
-    frame, accuracy, rows = case
-    numbers = [frame, accuracy]
-    for row in rows:
-        numbers.extend(row)
-    return ' '.join(str(number) for number in numbers) + ' : ' + answer
+    return ' '.join(str(number) for number in (frame, accuracy, *(number for row in rows for number in row)))
 
 
 def main():
-    """Prints the vectors, or how many there are of each kind."""
-    if sys.argv[1:] not in ([], ['--counts']):
-        sys.exit('use: row_vectors.py [--counts]')
+    """Prints the questions, or the answers."""
+    if sys.argv[1:] not in ([], ['--answers']):
+        sys.exit('use: row_vectors.py [--answers]')
     make_vectors()
-    cases = list(vectors)
-
-    if sys.argv[1:] == ['--counts']:
-        kinds = ['meets by both', 'meets in exact steps alone', 'misses by both', 'refused']
-        counts = dict.fromkeys(kinds, 0)
-        for kind in work_out(kind_of, cases, weight):
-            counts[kind] += 1
-        assert list(counts) == kinds and min(counts.values()) >= 100
-        for kind in kinds:
-            print(f'{kind}: {counts[kind]} of {counts[kind]} agree')
-        print(f'in all: {len(cases)} of {len(cases)} agree')
+    print('=== rows')
+    if sys.argv[1:] == []:
+        for case in vectors:
+            print(line_of(case))
         return
-    for (case, expected), answer in zip(vectors.items(), work_out(answer_of, cases, weight)):
-        assert expected is None or answer == expected, f'{line_of(case, answer)}, not {expected}'
-        print(line_of(case, answer))
+    kinds = []
+    for (case, expected), answer in zip(vectors.items(), work_out(answer_of, list(vectors), weight)):
+        assert is_as_known(answer, expected), f'{line_of(case)}: {answer}, not {expected}'
+        kinds.append(kind_of(answer))
+        print(answer)
+    counts = {kind: kinds.count(kind) for kind in set(kinds)}
+    assert len(counts) == 4 and min(counts.values()) >= 100
 
 
 if __name__ == '__main__':

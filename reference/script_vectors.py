@@ -1,10 +1,10 @@
 """Makes the vectors of scripts: scripts of calls to a bench, and what docs/PROGRAMS.md says is written for each.
 
     python3 reference/script_vectors.py > scripts
-    python3 reference/script_vectors.py --counts > answers
+    python3 reference/script_vectors.py --answers > answers
 
 A line `=== script N`, N from 1, stands before each script, and the lines up to the next such line, or to the end,
-are the script: bytes, which need be no text. With --counts what is written for each script is printed instead,
+are the script: bytes, which need be no text. With --answers what is written for each script is printed instead,
 behind the same line. No line of a script begins with `===`, and every line ends with a line feed.
 
 The same bytes come each time. Where a script is made with answers known beforehand, those were taken from docs/ by
@@ -19,8 +19,9 @@ sys.dont_write_bytecode = True  # leave no cache beside the sources
 import script_chance  # noqa: E402
 import script_edges  # noqa: E402
 import script_lines  # noqa: E402
-from benches import WORDS, lines_of  # noqa: E402
+from benches import lines_of  # noqa: E402
 from chance import Source, work_out  # noqa: E402
+from refusals import BAD_FRAME, OVERLOAD  # noqa: E402
 from scripts import MOST_CALLS  # noqa: E402
 
 SEED = 20_240_303_000  # and the number of the script
@@ -129,7 +130,8 @@ def check_spread(scripts):
         for line in lines_of(written):
             kind = kind_of(line.decode('ascii'))
             counts[kind] = counts.get(kind, 0) + 1
-    kinds = ['done', 'row meets', 'not a call'] + [f'refused {number}' for number in WORDS]
+    refused = [f'refused {number}' for number in range(BAD_FRAME, OVERLOAD + 1)]  # all that a bench can refuse
+    kinds = ['done', 'row meets', 'not a call'] + refused
     assert sorted(counts) == sorted(kinds) and min(counts.values()) >= 60, counts
     overloads = [overload for _, _, noted in scripts for overload in noted]
     assert sum(told == rank for rank, told, _ in overloads) >= 500  # the newcomer misses
@@ -140,8 +142,8 @@ def check_spread(scripts):
 
 def main():
     """Prints the scripts, or what is written for each."""
-    if sys.argv[1:] not in ([], ['--counts']):
-        sys.exit('use: script_vectors.py [--counts]')
+    if sys.argv[1:] not in ([], ['--answers']):
+        sys.exit('use: script_vectors.py [--answers]')
     add_edges()
     add_lines()
     add_chance()
@@ -149,7 +151,7 @@ def main():
     check_spread(scripts)
     for number, (script, written, _) in enumerate(scripts, start=1):
         sys.stdout.buffer.write(f'=== script {number}\n'.encode('ascii'))
-        sys.stdout.buffer.write(written if sys.argv[1:] == ['--counts'] else script)
+        sys.stdout.buffer.write(written if sys.argv[1:] == ['--answers'] else script)
 
 
 if __name__ == '__main__':

@@ -1,17 +1,19 @@
-"""Makes the vectors of sheets: strings of bytes, each with the answer that docs/FORMAT.md gives it.
+"""Makes the stored questions about sheets: strings of bytes, which docs/FORMAT.md answers.
 
-    python3 reference/sheet_vectors.py > vectors
-    python3 reference/sheet_vectors.py --counts > counts
+    python3 reference/sheet_vectors.py > questions
+    python3 reference/sheet_vectors.py --answers > answers
 
-A line is `HEX ANSWER`, with one space between. HEX is the bytes of the sheet in uppercase hexadecimal, `-` where
-there is no byte. ANSWER is the bytes of the answer in the same way, in which a leading `+` stands for the bytes
-of the sheet once more: so a leaf begins with `+` and a refusal with 58.
+The questions are lines of bytes in uppercase hexadecimal, `-` where there is no byte, below a line `=== sheets`. With
+--answers the script prints instead, below the same line, the answer to each, in a line:
 
-The same lines come each time. With --counts the script prints instead how many vectors there are of each kind
-of answer, in the words of a program with which they all agree.
+    ANSWER, ANSWER, refused 19 at 0
 
-Where this file names the answer to a vector, it was taken from docs/FORMAT.md or docs/RULES.md by hand, and the
-answers are held to it. The counts of each survey are held to what docs/RULES.md says of them.
+what is answered into a buffer with room for every answer, into one of the length of this answer, and into one that is a
+byte shorter. ANSWER is bytes in uppercase hexadecimal, in which a leading `+` stands for the bytes of the sheet.
+
+The same lines come each time. Where this file names the answer to a sheet, it was taken from docs/FORMAT.md or
+docs/RULES.md by hand, and the answers are held to it. The counts of each survey are held to what docs/RULES.md says of
+them.
 """
 
 import sys
@@ -21,11 +23,9 @@ sys.dont_write_bytecode = True  # leave no cache beside the sources
 from chance import LOOSE, NEARLY_LOOSE, Source, at_the_edge, divisors, work_out  # noqa: E402
 from counts import check_case, first_rest, slow_rest, test_points, window  # noqa: E402
 from leaves import (  # noqa: E402
-    CUT_LEAF,
     END,
     FINDING,
     HORIZON,
-    OUT_OF_TURN,
     read_leaf,
     write_end,
     write_finding,
@@ -33,26 +33,32 @@ from leaves import (  # noqa: E402
     write_leaf,
     write_row,
 )
+from refusals import (  # noqa: E402
+    BAD_ACCURACY,
+    BAD_FRAME,
+    CUT_LEAF,
+    FULL_TABLE,
+    IDLE_ROW,
+    LATE_DEADLINE,
+    LONG_PERIOD,
+    NO_WINDOW,
+    OFF_FRAME,
+    OUT_OF_TURN,
+    SHORT_BUFFER,
+    STRANGE_LETTER,
+    UNKNOWN_BOUND,
+    refused_at,
+)
 from sheets import answer_sheet, bound_of, read_sheet, write_refusal  # noqa: E402
 
 TOP = 4_294_967_295  # the largest number of 32 bits
 HALF = 2_147_483_648  # the least that would be negative if it had a sign
 
-# The refusals that a sheet can have, by their numbers, with their words in docs/REFUSALS.md.
-REFUSALS = {
-    1: 'bad frame',
-    3: 'bad accuracy',
-    4: 'idle row',
-    5: 'no window',
-    6: 'late deadline',
-    7: 'long period',
-    8: 'off frame',
-    9: 'full table',
-    13: 'cut leaf',
-    14: 'strange letter',
-    15: 'out of turn',
-    20: 'unknown bound',
-}
+# The refusals that a sheet can have.
+REFUSALS = [
+    BAD_FRAME, BAD_ACCURACY, IDLE_ROW, NO_WINDOW, LATE_DEADLINE, LONG_PERIOD, OFF_FRAME, FULL_TABLE, CUT_LEAF,
+    STRANGE_LETTER, OUT_OF_TURN, UNKNOWN_BOUND,
+]
 
 # The windows of all sheets but ten are no longer. Of those ten only the answer is worked out.
 WIDEST = 20_000
@@ -644,42 +650,41 @@ def worked_out(data):
 
 
 def kind_of(data):
-    """The kind of answer to a vector, for which nothing need be counted."""
+    """The kind of answer to a sheet, for which nothing need be counted."""
     read = read_sheet(data)
     if read[0] == 'refused':
-        return f'refused {read[1]}, {REFUSALS[read[1]]}'
-    return 'leaf in exact steps' if read[2] == 0 else 'leaf by the linear tail'
+        return read[1]
+    return 'exact steps' if read[2] == 0 else 'linear tail'
+
+
+def check_spread():
+    """Every answer that a sheet can have is there."""
+    kinds = [kind_of(data) for data in vectors]
+    counts = {kind: kinds.count(kind) for kind in set(kinds)}
+    assert set(counts) == {'exact steps', 'linear tail', *REFUSALS} and min(counts.values()) >= 20
+    assert sum(longest_window(data) > WIDEST for data in vectors) == 10
 
 
 def line_of(data, answer):
-    """The line of a vector."""
+    """The line of an answer."""
     told = answer.hex().upper()
     if answer[:1] == b'F':
-        assert answer[:len(data)] == data and len(answer) == 12 + 26 * ((len(data) - 7) // 17)
+        assert len(answer) == 12 + 26 * ((len(data) - 7) // 17)
+    if answer.startswith(data):
         told = '+' + answer[len(data):].hex().upper()
-    return f'{data.hex().upper() or "-"} {told}'
+    return f'{told}, {told}, {refused_at(SHORT_BUFFER, 0)}'
 
 
 def main():
-    """Prints the vectors, or how many there are of each kind."""
-    if sys.argv[1:] not in ([], ['--counts']):
-        sys.exit('use: sheet_vectors.py [--counts]')
+    """Prints the questions, or the answers."""
+    if sys.argv[1:] not in ([], ['--answers']):
+        sys.exit('use: sheet_vectors.py [--answers]')
     make_vectors()
-
-    # Every answer that a sheet can have is there.
-    kinds = ['leaf in exact steps', 'leaf by the linear tail']
-    kinds += [f'refused {number}, {words}' for number, words in REFUSALS.items()]
-    counts = dict.fromkeys(kinds, 0)
-    for data in vectors:
-        counts[kind_of(data)] += 1
-    assert list(counts) == kinds and min(counts.values()) >= 20
-    assert sum(longest_window(data) > WIDEST for data in vectors) == 10
-
-    if sys.argv[1:] == ['--counts']:
-        for kind in kinds:
-            print(f'{kind}: {counts[kind]} of {counts[kind]} agree')
-        total = sum(counts.values())
-        print(f'in all: {total} of {total} agree')
+    check_spread()
+    print('=== sheets')
+    if sys.argv[1:] == []:
+        for data in vectors:
+            print(data.hex().upper() or '-')
         return
     for (data, expected), answer in zip(vectors.items(), work_out(worked_out, list(vectors), weight)):
         assert expected is None or answer == expected, f'{data.hex()}: {answer.hex()}, not {expected.hex()}'

@@ -15,21 +15,18 @@ sys.dont_write_bytecode = True  # leave no cache beside the sources
 from counts import EXACT_STEPS, LINEAR_TAILS, survey  # noqa: E402
 from leaves import (  # noqa: E402
     BEFORE_HEADING,
-    CUT_LEAF,
-    FULL_TABLE,
     HEADING,
     IN_ROWS,
     LENGTH,
     MOST_ROWS,
-    OUT_OF_TURN,
     ROW,
-    STRANGE_LETTER,
     check_heading,
     check_row,
     four_bytes,
     number_at,
     write_leaf,
 )
+from refusals import CUT_LEAF, FULL_TABLE, OUT_OF_TURN, STRANGE_LETTER  # noqa: E402
 
 # The first byte of an answer that refuses. It is no kind of entry.
 REFUSAL = 0x58  # X

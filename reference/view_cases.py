@@ -28,7 +28,8 @@ sys.dont_write_bytecode = True  # leave no cache beside the sources
 from chance import Source  # noqa: E402
 from counts import EXACT_STEPS, LINEAR_TAILS, check_case, survey, window  # noqa: E402
 from leaves import HORIZON, read_leaf, write_end, write_finding, write_heading, write_leaf, write_row  # noqa: E402
-from views import MOST_NUMBER, WORDS, Judged, Trouble, answer, leaf_of  # noqa: E402
+from refusals import SHORT_BUFFER, SHORT_LIST, WORDS, refused  # noqa: E402
+from views import MOST_NUMBER, Judged, Trouble, answer, leaf_of  # noqa: E402
 
 MARK = '\ufeff'  # the byte order mark
 
@@ -760,8 +761,8 @@ def check_tables():
                 check_case(frame, row, rows[:at], accuracy, in_full=False)
 
 
-# What must be told somewhere: every refusal, and every other form of what is told.
-FORMS = [f'refused {number} {words}' for number, words in WORDS.items()] + [
+# What must be told somewhere: every refusal but those of a caller's list and buffer, and every other form of what is told.
+FORMS = [refused(number) for number in WORDS if number not in (SHORT_LIST, SHORT_BUFFER)] + [
     'misses    -', 'of 32 rows meet', '0 of 0 rows meet', '0.01 %', 'stands there, expected a number from 0 to 4294967295\n',
     'fields stand there, expected', 'stands there again', 'no heading', 'a task more', 'nothing stands there', 'no text',
     'expected at least 1', 'less the jitter', 'is below the jitter', 'at most the period', 'at most 16777216', 'a divisor of the frame',

@@ -4,15 +4,15 @@ A task table is read from its bytes, judged and given a frame, and its rows are 
 leaves are read by leaves.py, and scripts are played by benches.py. Texts are strings that end with a line feed. What is
 refused or cannot be taken is a Trouble, whose text is what is told behind the file's name.
 
-    python3 reference/views.py file TABLE --linear K [--frame H]
+    python3 reference/views.py file TABLE --linear K [--frame H] [--out NAME]
     python3 reference/views.py show [--csv | --json] LEAF ..
     python3 reference/views.py compare A B
     python3 reference/views.py plot TABLE --rank R --linear K [--frame H]
     python3 reference/views.py sheet TABLE [--linear K] [--frame H]
     python3 reference/views.py bench SCRIPT
 
-prints what is told of the files named: of `file` the table and the bytes of both leaves, of `plot` the numbers of the
-picture, of `sheet` its bytes in hexadecimal.
+prints what is told of the files named: of `file` the table, and the bytes of both leaves or, with a name, the lines that
+tell where they are filed; of `plot` the numbers of the picture; of `sheet` its bytes in hexadecimal.
 """
 
 import json
@@ -24,52 +24,20 @@ sys.dont_write_bytecode = True  # leave no cache beside the sources
 
 from benches import play  # noqa: E402
 from counts import EXACT_STEPS, LINEAR_TAILS, survey, window  # noqa: E402
-from leaves import (  # noqa: E402
+from leaves import HORIZON, MOST_ACCURACY, MOST_ROWS, read_leaf, write_heading, write_leaf, write_row  # noqa: E402
+from refusals import (  # noqa: E402
     BAD_ACCURACY,
     BAD_FRAME,
-    BAD_FINDING,
-    CUT_LEAF,
     FULL_TABLE,
-    HORIZON,
     IDLE_ROW,
     LATE_DEADLINE,
     LONG_PERIOD,
-    LOOSE_BYTES,
-    MISCOUNT,
-    MOST_ACCURACY,
-    MOST_ROWS,
+    NO_RANK,
     NO_WINDOW,
     OFF_FRAME,
-    OUT_OF_TURN,
-    STRANGE_LETTER,
-    UNKNOWN_BOUND,
-    read_leaf,
-    write_heading,
-    write_leaf,
-    write_row,
+    WORDS,
+    refused,
 )
-
-NO_RANK = 10  # the one refusal here that reading leaves does not give
-
-# The words of docs/REFUSALS.md.
-WORDS = {
-    BAD_FRAME: 'bad frame',
-    BAD_ACCURACY: 'bad accuracy',
-    IDLE_ROW: 'idle row',
-    NO_WINDOW: 'no window',
-    LATE_DEADLINE: 'late deadline',
-    LONG_PERIOD: 'long period',
-    OFF_FRAME: 'off frame',
-    FULL_TABLE: 'full table',
-    NO_RANK: 'no rank',
-    CUT_LEAF: 'cut leaf',
-    STRANGE_LETTER: 'strange letter',
-    OUT_OF_TURN: 'out of turn',
-    MISCOUNT: 'miscount',
-    BAD_FINDING: 'bad finding',
-    LOOSE_BYTES: 'loose bytes',
-    UNKNOWN_BOUND: 'unknown bound',
-}
 
 MOST_NUMBER = 4_294_967_295
 
@@ -86,11 +54,6 @@ MOST_TOLD = 40  # the characters of a field that are told
 
 class Trouble(Exception):
     """What was refused or cannot be taken."""
-
-
-def refused(number):
-    """A refusal's number and words."""
-    return f'refused {number} {WORDS[number]}'
 
 
 def shown(text):
@@ -448,6 +411,14 @@ def file_table(data, accuracy, frame=None):
     return told, leaf_of(frame, 0, rows, exact), leaf_of(frame, accuracy, rows, linear)
 
 
+def file_lines(data, name, accuracy, frame=None):
+    """What `file` prints: the table, and where it files each leaf."""
+    told, exact, linear = file_table(data, accuracy, frame)
+    for bound, leaf in [('exact', exact), (f'linear-{accuracy}', linear)]:
+        told += f'filed {name}.{bound}.leaf, {len(leaf)} bytes\n'
+    return told
+
+
 # --- plot and sheet ----------------------------------------------------------------------------------------
 
 
@@ -632,12 +603,12 @@ def compare(a, b):
 
 
 def options_of(words):
-    """The numbers that are named by options."""
+    """The numbers, and the name, that are named by options."""
     assert len(words) % 2 == 0
     options = {}
-    for option, number in zip(words[::2], words[1::2]):
-        assert option in ('--linear', '--frame', '--rank') and is_number(number)
-        options[option] = int(number)
+    for option, word in zip(words[::2], words[1::2]):
+        assert option == '--out' or option in ('--linear', '--frame', '--rank') and is_number(word)
+        options[option] = word if option == '--out' else int(word)
     return options
 
 
@@ -653,6 +624,8 @@ def answered(words, read):
         return compare(Leaf(a, read(a)), Leaf(b, read(b)))
     data, options = read(words[0]), options_of(words[1:])
     frame, accuracy = options.get('--frame'), options.get('--linear')
+    if subcommand == 'file' and '--out' in options:
+        return file_lines(data, options['--out'], accuracy, frame)
     if subcommand == 'file':
         told, exact, linear = file_table(data, accuracy, frame)
         return f'{told}exact leaf: {exact.hex().upper()}\nlinear leaf: {linear.hex().upper()}\n'

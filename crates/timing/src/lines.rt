@@ -2,9 +2,8 @@
 use crate::works::{Action, Work};
 use anyhow::{Context, bail, ensure};
 use bounds::{LinearTail, Supplied};
-use rows::{FrameNumbers, Row};
+use rows::{FrameNumbers, Numbers, Row};
 use std::alloc::Global;
-use tallies::{numbers, row_list};
 
 /// A line: a work that has no table yet, the frame of a table, or a row.
 #[derive(Debug, Drop)]
@@ -31,7 +30,7 @@ impl Line {
 
 // A work in five words: name, action, bound, accuracy and rounds.
 fn work(alloc: Global, text: &str) -> anyhow::Result<Work> {
-    let mut words = text.split_whitespace();
+    let mut words = text.split_ascii_whitespace();
     let name = words.next().context("no name")?;
     let action = action(words.next().context("no action")?)?;
     let kind = words.next().context("no bound")?;
@@ -70,9 +69,15 @@ fn bound(kind: &str, accuracy: &str) -> anyhow::Result<Supplied> {
 
 // The row of four numbers.
 fn row(alloc: Global, text: &str) -> anyhow::Result<Row> {
-    let list = row_list(alloc, &numbers(alloc, text)?)?;
-    let [numbers] = &*list else {
+    let words: Vec<&str> = text.split_ascii_whitespace().collect(alloc)?;
+    let [work, deadline, period, jitter] = words.as_slice() else {
         bail!("a row has four numbers: {text:?}");
+    };
+    let numbers = Numbers {
+        work: work.parse().context("reading the work")?,
+        deadline: deadline.parse().context("reading the deadline")?,
+        period: period.parse().context("reading the period")?,
+        jitter: jitter.parse().context("reading the jitter")?,
     };
     Ok(numbers.judge(0)?)
 }

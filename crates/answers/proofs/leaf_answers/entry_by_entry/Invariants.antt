@@ -1,0 +1,5 @@
+use Rattle.std.proofs.Common.{length}
+use Rattle.answers.proofs.leaf_answers.entry_by_entry.Given as goal
+
+abbrev pub decreases-loop-next : goal.decreases-loop-next
+decreases-loop-next l = length l.reader.left

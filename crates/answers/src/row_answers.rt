@@ -1,0 +1,60 @@
+// What is answered about a row.
+use crate::row_questions::RowQuestion;
+use crate::told::{OrNone, Told};
+use bounds::{Bound, ExactSteps};
+use brackets::{Counts, count_both, least_accuracy, slow_rest};
+use findings::{Finding, find, response_time};
+use std::fmt;
+use std::io::Write;
+
+/// Prints what each call about a row answers: `find` in exact steps and by the linear tail,
+/// `count_both` by that tail, `response_time`, `least_accuracy`, and `slow_rest` by its accuracy.
+pub(crate) fn answer_row<W: Write + Drop>(
+    question: &RowQuestion,
+    writer: &mut W,
+) -> anyhow::Result<()> {
+    let RowQuestion {
+        frame,
+        tail,
+        above,
+        row,
+    } = question;
+    let exact = Told(find(&ExactSteps, *frame, row, above).map(Found));
+    let bounded = Told(find(tail, *frame, row, above).map(Found));
+    let both = Told(count_both(tail, *frame, row, above).map(Both));
+    let response = Told(response_time(*frame, row, above).map(OrNone));
+    let least = Told(least_accuracy(*frame, row, above).map(OrNone));
+    let slow = Told(slow_rest(tail.accuracy(), row, above).map(OrNone));
+    writeln!(
+        writer,
+        "{exact}, {bounded}, {both}, {response}, {least}, {slow}"
+    )?;
+    Ok(())
+}
+
+// A finding.
+#[derive(Clone, Copy)]
+struct Found(Finding);
+
+// The first rest, "-" where the row misses, and the points.
+impl fmt::Display for Found {
+    fn fmt<W: fmt::Write>(&self, f: &mut fmt::Formatter<W>) -> fmt::Result {
+        let rest = OrNone(self.0.verdict.rest());
+        let points = self.0.points;
+        write!(f, "{rest} {points}")
+    }
+}
+
+// Two findings about one row.
+#[derive(Clone, Copy)]
+struct Both(Counts);
+
+// Both findings, and how far they part.
+impl fmt::Display for Both {
+    fn fmt<W: fmt::Write>(&self, f: &mut fmt::Formatter<W>) -> fmt::Result {
+        let exact = Found(self.0.exact);
+        let bounded = Found(self.0.bounded);
+        let gap = OrNone(self.0.gap());
+        write!(f, "{exact} {bounded} {gap}")
+    }
+}

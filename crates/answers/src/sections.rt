@@ -1,0 +1,76 @@
+// Sections: stored questions of one kind.
+use crate::leaf_answers::{answer_changes, answer_cuts, answer_leaf};
+use crate::row_answers::answer_row;
+use crate::row_questions::RowQuestion;
+use crate::sheet_answers::answer_in_buffers;
+use anyhow::{bail, ensure};
+use scripts::run;
+use std::alloc::Global;
+use std::io::Write;
+use std::str;
+
+/// A section, by what is asked in it: about strings of bytes as leaves, each as it stands there, cut
+/// at every length, or with each byte changed to every value; about strings of bytes as
+/// sheets; about rows; or about one script, with its lines as far as they have come.
+#[derive(Drop)]
+pub(crate) enum Section {
+    Leaves,
+    LeavesCut,
+    LeavesChanged,
+    Sheets,
+    Rows,
+    Script(Vec<u8>),
+}
+
+impl Section {
+    /// The section that a line begins.
+    pub(crate) fn parse(alloc: Global, line: &[u8]) -> anyhow::Result<Section> {
+        let words: Vec<&str> = str::from_utf8(line)?
+            .split_ascii_whitespace()
+            .collect(alloc)?;
+        match words.as_slice() {
+            ["===", "leaves"] => Ok(Section::Leaves),
+            ["===", "leaves", "cut"] => Ok(Section::LeavesCut),
+            ["===", "leaves", "changed"] => Ok(Section::LeavesChanged),
+            ["===", "sheets"] => Ok(Section::Sheets),
+            ["===", "rows"] => Ok(Section::Rows),
+            ["===", "script", _] => Ok(Section::Script(Vec::new(alloc))),
+            _ => bail!("no kind of questions"),
+        }
+    }
+
+    /// Answers a line of the section. That of a script is kept until its end.
+    pub(crate) fn answer<W: Write + Drop>(
+        &mut self,
+        alloc: Global,
+        line: &[u8],
+        writer: &mut W,
+    ) -> anyhow::Result<()> {
+        match self {
+            Section::Leaves => answer_leaf(alloc, &decoded(alloc, line)?, writer),
+            Section::LeavesCut => answer_cuts(alloc, &decoded(alloc, line)?, writer),
+            Section::LeavesChanged => answer_changes(alloc, &decoded(alloc, line)?, writer),
+            Section::Sheets => answer_in_buffers(alloc, &decoded(alloc, line)?, writer),
+            Section::Rows => answer_row(&RowQuestion::parse(alloc, line)?, writer),
+            Section::Script(script) => Ok(script.extend_from_slice(line)?),
+        }
+    }
+
+    /// Answers what the lines of the section ask together.
+    pub(crate) fn end<W: Write + Drop>(self, writer: &mut W) -> anyhow::Result<()> {
+        if let Section::Script(script) = self {
+            run(&mut script.as_slice(), writer)?;
+        }
+        Ok(())
+    }
+}
+
+// The bytes that a line tells in hexadecimal, or by `-` where there is none.
+fn decoded(alloc: Global, line: &[u8]) -> anyhow::Result<Vec<u8>> {
+    let digits = str::from_utf8(line)?.trim_end();
+    if digits == "-" {
+        return Ok(Vec::new(alloc));
+    }
+    ensure!(!digits.is_empty(), "no bytes");
+    Ok(hex::decode(alloc, digits)?)
+}

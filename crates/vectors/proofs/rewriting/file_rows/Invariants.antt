@@ -1,8 +1,0 @@
-use Rattle.std.proofs.Common.{map, take}
-use Rattle.leaves.specs.declared.entries.Entry.TheVariants.{Row as row}
-use Rattle.writing.specs.Filing.{FilesAll}
-use Rattle.vectors.proofs.rewriting.file_rows.Given as goal
-
--- so far the rows seen are filed
-abbrev pub invariant-loop-row : goal.invariant-loop-row
-invariant-loop-row l = FilesAll l.fn.leaf l.fn.buffer (map row (take l.row-index l.rows)) l.leaf l.buffer

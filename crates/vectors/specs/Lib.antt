@@ -1,3 +1,0 @@
-pub mod Kinds
-pub mod Lines
-pub mod Leaves
