@@ -4,6 +4,7 @@ use leaves::{END_SIZE, Entry, HEADING_SIZE};
 use reading::Leaf;
 use rows::{Fault, Refusal};
 use std::alloc::{AllocError, Global};
+use std::iter;
 use writing::{FindingsLeaf, RowsLeaf, begin, file};
 
 /// Files entries, each by a call of its own, into a buffer as long as the bytes that they came from.
@@ -57,8 +58,9 @@ fn put_findings(
     Ok(())
 }
 
-/// Files by one call what a leaf holds at each of its ranks, and what it holds at 0 and past the last,
-/// where nothing is to be, into a buffer as long as the bytes that it was read from.
+/// Files by one call what a leaf holds past its last rank, at each of its ranks, and at 0, into a buffer
+/// as long as the bytes that it was read from. In this order ranks that are one too low or too high are
+/// seen, though nothing is to be past the last and at 0.
 pub(crate) fn file_whole<'a>(
     alloc: Global,
     bytes: &'a [u8],
@@ -67,7 +69,8 @@ pub(crate) fn file_whole<'a>(
     let mut rows = Vec::new(alloc);
     let mut findings = Vec::new(alloc);
     let last = leaf.len();
-    for rank in (1..=last).chain([0, last.saturating_add(1)]) {
+    let past = last.saturating_add(1);
+    for rank in iter::once(past).chain(1..=last).chain(iter::once(0)) {
         if let Some(row) = leaf.row(rank) {
             rows.push(row)?;
         }
