@@ -188,9 +188,9 @@ def survey(frame, bound, rows):
     return [finding(frame, bound, row, rows[:at]) for at, row in enumerate(rows)]
 
 
-def response_time(frame, row, above):
-    """First rest plus jitter in exact steps, or None."""
-    rest = first_rest(frame, EXACT_STEPS, row, above)
+def response_time(row, above):
+    """First rest plus jitter in exact steps, or None. No frame is asked for: at frame 1 a part is a unit of work."""
+    rest = first_rest(1, EXACT_STEPS, row, above)
     return None if rest is None else rest + row[3]
 
 
@@ -300,7 +300,7 @@ def check_case(frame, row, above, accuracy, in_full=True):
     bounds = (EXACT_STEPS, LINEAR_TAILS[accuracy])
     check_steps(frame, row, above)
     check_bracket(frame, row, above, accuracy)
-    rest, response = first_rest(frame, EXACT_STEPS, row, above), response_time(frame, row, above)
+    rest, response = first_rest(frame, EXACT_STEPS, row, above), response_time(row, above)
     assert (rest is None) == (response is None)
     assert response is None or response == rest + row[3] <= row[1]
     if in_full:

@@ -2,8 +2,9 @@
 use crate::row_questions::RowQuestion;
 use crate::told::{OrNone, Told};
 use bounds::{Bound, ExactSteps};
-use brackets::{Counts, count_both, least_accuracy, slow_rest};
-use findings::{Finding, find, response_time};
+use brackets::{Counts, count_both, least_accuracy, response_time, slow_rest};
+use findings::find;
+use rows::{Fault, Finding, Table};
 use std::fmt;
 use std::io::Write;
 
@@ -19,11 +20,13 @@ pub(crate) fn answer_row<W: Write + Drop>(
         above,
         row,
     } = question;
-    let exact = Told(find(&ExactSteps, *frame, row, above).map(Found));
-    let bounded = Told(find(tail, *frame, row, above).map(Found));
-    let both = Told(count_both(tail, *frame, row, above).map(Both));
-    let response = Told(response_time(*frame, row, above).map(OrNone));
-    let least = Told(least_accuracy(*frame, row, above).map(OrNone));
+    let table = frame.judge().and_then(|frame| Table::of(&frame, above));
+    let table = table.as_ref().map_err(|fault| *fault);
+    let exact = Told(table.and_then(|table| find(&ExactSteps, row, table)).map(Found));
+    let bounded = Told(table.and_then(|table| find(tail, row, table)).map(Found));
+    let both = Told(table.and_then(|table| count_both(tail, row, table)).map(Both));
+    let response = Told(response_time(row, above).map(OrNone));
+    let least = Told(table.and_then(|table| least_accuracy(row, table)).map(OrNone));
     let slow = Told(slow_rest(tail.accuracy(), row, above).map(OrNone));
     writeln!(
         writer,

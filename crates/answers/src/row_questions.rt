@@ -1,7 +1,7 @@
 // Questions about a row.
 use anyhow::{Context, bail};
 use bounds::LinearTail;
-use rows::{Numbers, Row};
+use rows::{FrameNumbers, Numbers, Row};
 use std::alloc::Global;
 use std::str;
 
@@ -9,7 +9,7 @@ use std::str;
 /// beside the exact steps.
 #[derive(Drop)]
 pub(crate) struct RowQuestion {
-    pub(crate) frame: u32,
+    pub(crate) frame: FrameNumbers,
     pub(crate) tail: LinearTail,
     pub(crate) above: Vec<Row>,
     pub(crate) row: Row,
@@ -30,7 +30,7 @@ impl RowQuestion {
         }
         let row = above.pop().context("no row")?;
         Ok(RowQuestion {
-            frame: *frame,
+            frame: FrameNumbers { ticks: *frame },
             tail: LinearTail::new(*accuracy)?,
             above,
             row,
