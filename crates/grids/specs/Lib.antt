@@ -1,5 +1,9 @@
-pub mod Aligned
 pub mod Cells
+pub mod Shown
 pub mod Columns
 pub mod Lines
-pub mod Shown
+pub mod Aligned
+pub mod CsvFields
+pub mod CsvRecords
+pub mod JsonTrees
+pub mod JsonReads

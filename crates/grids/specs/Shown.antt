@@ -1,8 +1,7 @@
 -- The text of a cell, as an aligned table shows it.
-use Rattle.std.specs.Prelude.{◌≡◌, ◌<◌, ◌^◌, ℕ, ◌==◌, List, length, map, codes, decimal, string_bytes, slice_get, if◌then◌else◌}
+use Rattle.std.specs.Prelude.{ℕ, ◌==◌, List, length, map, codes, decimal, string_bytes, slice_get, if◌then◌else◌}
 use Rattle.std.specs.Char.{is_ascii_control}
 use Rattle.std.specs.Option.{option_map_or}
-use Rattle.std.specs.Str.Parse.{IsNumeral, digits_value}
 use Rattle.grids.specs.Cells.{Headings}
 use Rattle.grids.specs.declared.cells.Cell.{Cell}
 use Rattle.grids.specs.declared.cells.Cell.TheVariants.{Nothing, Truth, Number, Text}
@@ -33,7 +32,3 @@ shown_at row place = option_map_or shown_of (slice_get row place) dash
 -- what is shown at a place of the headings
 abbrev pub heading_at : Headings → ℕ → List ℕ
 heading_at headings place = option_map_or (λ heading. shown_text heading.now) (slice_get headings place) dash
-
--- a number that is shown reads back as that number
-abbrev pub NumbersReadBack : Type 0
-NumbersReadBack = (n : ℕ) → n < 2 ^ 64 → IsNumeral 10 (shown_of (Number n)) × (digits_value 10 (shown_of (Number n)) ≡ n)

@@ -10,7 +10,7 @@ use std::alloc::{AllocError, Global};
 
 // A column: how many characters it is wide, and whether its texts are set to the right.
 #[derive(Clone, Copy, Debug)]
-pub(crate) struct Column {
+pub(crate) struct AlignedColumn {
     pub(crate) width: usize,
     pub(crate) right: bool,
 }
@@ -63,12 +63,12 @@ fn measure(
     heading: &str,
     place: usize,
     rows: &[Vec<Cell>],
-) -> Result<Column, AllocError>
+) -> Result<AlignedColumn, AllocError>
     ensures { IfOk result (λ column. column ≡ column_under heading.now place rows.now) }
 {
     let shown = show_text(alloc, heading)?;
     let width = count_characters(&shown).max(widest_at(alloc, place, rows)?);
-    Ok(Column {
+    Ok(AlignedColumn {
         width,
         right: sets_right(place, rows),
     })
@@ -79,7 +79,7 @@ pub(crate) fn measure_all(
     alloc: Global,
     headings: &[&'static str],
     rows: &[Vec<Cell>],
-) -> Result<Vec<Column>, AllocError>
+) -> Result<Vec<AlignedColumn>, AllocError>
     ensures { IfOk result (λ all. all.items ≡ columns_under headings.now 0 rows.now) }
 {
     let mut all = Vec::new(alloc);

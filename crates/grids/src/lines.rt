@@ -2,32 +2,33 @@
 ghost use Rattle.std.specs.Prelude.{◌≡◌, ◌++◌, IfOk, OnOk};
 ghost use Rattle.grids.specs.Aligned.{aligned_text, blanks, fields_text, line_text, padded_text};
 ghost use Rattle.grids.specs.Lines.{text_at};
-ghost use Rattle.grids.specs.Shown.{NumbersReadBack};
+ghost use Rattle.grids.specs.Cells.{NumbersReadBack};
+ghost use Rattle.grids.specs.Shown.{shown_of};
 
 use crate::cells::Cell;
-use crate::columns::{Column, count_characters, measure_all};
+use crate::columns::{AlignedColumn, count_characters, measure_all};
 use crate::shown::{show_at, show_text};
 use crate::table::Grid;
 use std::alloc::{AllocError, Global};
 
 // A line of a table: its headings, or a row.
 #[derive(Clone, Copy)]
-enum Line<'a> {
-    Headings(&'a [&'static str]),
-    Cells(&'a [Cell]),
+enum GridLine<'a> {
+    Head(&'a [&'static str]),
+    Row(&'a [Cell]),
 }
 
-impl Line<'_> {
+impl GridLine<'_> {
     // What is shown at a place of the line.
     fn show(self, alloc: Global, place: usize) -> Result<Vec<u8>, AllocError>
         ensures { IfOk result (λ shown. shown.items ≡ text_at self.entry place) }
     {
         match self {
-            Line::Headings(headings) => match headings.get(place) {
+            GridLine::Head(headings) => match headings.get(place) {
                 Some(heading) => show_text(alloc, heading),
                 None => show_text(alloc, ""),
             },
-            Line::Cells(row) => show_at(alloc, row, place),
+            GridLine::Row(row) => show_at(alloc, row, place),
         }
     }
 }
@@ -43,7 +44,7 @@ fn write_blanks(line: &mut Vec<u8>, count: usize) -> Result<(), AllocError>
 }
 
 // Writes a text, set to its column's side.
-fn write_padded(line: &mut Vec<u8>, column: Column, text: &[u8]) -> Result<(), AllocError>
+fn write_padded(line: &mut Vec<u8>, column: AlignedColumn, text: &[u8]) -> Result<(), AllocError>
     ensures { OnOk result (line.new.items ≡ line.old.items ++ padded_text column text.now) }
 {
     let room = column.width.saturating_sub(count_characters(text));
@@ -57,7 +58,11 @@ fn write_padded(line: &mut Vec<u8>, column: Column, text: &[u8]) -> Result<(), A
 }
 
 // The fields of a line, each with two blanks behind it.
-fn fields_of(alloc: Global, columns: &[Column], line: Line<'_>) -> Result<Vec<u8>, AllocError>
+fn padded_fields(
+    alloc: Global,
+    columns: &[AlignedColumn],
+    line: GridLine<'_>,
+) -> Result<Vec<u8>, AllocError>
     ensures { IfOk result (λ fields. fields.items ≡ fields_text (text_at line.entry) 0 columns.now) }
 {
     let mut fields = Vec::new(alloc);
@@ -73,12 +78,12 @@ fn fields_of(alloc: Global, columns: &[Column], line: Line<'_>) -> Result<Vec<u8
 fn write_line(
     text: &mut Vec<u8>,
     alloc: Global,
-    columns: &[Column],
-    line: Line<'_>,
+    columns: &[AlignedColumn],
+    line: GridLine<'_>,
 ) -> Result<(), AllocError>
     ensures { OnOk result (text.new.items ≡ text.old.items ++ line_text (text_at line.entry) columns.now) }
 {
-    let fields = fields_of(alloc, columns, line)?;
+    let fields = padded_fields(alloc, columns, line)?;
     text.extend_from_slice(fields.trim_ascii_end())?;
     text.push(b'\n')?;
     Ok(())
@@ -91,14 +96,14 @@ fn write_line(
 /// `?` for each control character (below U+0020, and U+007F), and as `-` where it is empty.
 /// Out of memory is an `Err`.
 pub fn aligned(alloc: Global, grid: &Grid) -> Result<Vec<u8>, AllocError>
-    ensures numbers { OnOk result NumbersReadBack }
+    ensures numbers { OnOk result (NumbersReadBack shown_of) }
     ensures text { IfOk result (λ text. text.items ≡ aligned_text grid.now.headings.items grid.now.rows.items) }
 {
     let columns = measure_all(alloc, &grid.headings, &grid.rows)?;
     let mut text = Vec::new(alloc);
-    write_line(&mut text, alloc, &columns, Line::Headings(&grid.headings))?;
+    write_line(&mut text, alloc, &columns, GridLine::Head(&grid.headings))?;
     for row in &grid.rows {
-        write_line(&mut text, alloc, &columns, Line::Cells(row))?;
+        write_line(&mut text, alloc, &columns, GridLine::Row(row))?;
     }
     Ok(text)
 }

@@ -8,7 +8,7 @@ use Rattle.grids.specs.Cells.{IsText}
 use Rattle.grids.specs.Shown.{shown_of, shown_text}
 use Rattle.grids.specs.declared.cells.Cell.{Cell}
 use Rattle.grids.specs.declared.cells.Cell.TheVariants.{Nothing, Truth, Number, Text}
-use Rattle.grid_csv.specs.Fields.{field_of}
+use Rattle.grids.specs.CsvFields.{field_of}
 use Rattle.views.specs.Cells.{heading_fields, record_fields, row_cells, row_fields}
 
 -- what is found, written out

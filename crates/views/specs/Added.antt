@@ -10,8 +10,8 @@ use Rattle.leaves.specs.Contents.{Contents}
 use Rattle.reading.specs.Whole.{Fits}
 use Rattle.streams.specs.Held.{MayHold}
 use Rattle.grids.specs.Cells.{Headings, Rows}
-use Rattle.grid_csv.specs.Fields.{headings_of, records_of}
-use Rattle.grid_json.specs.Reads.{IsTextOf}
+use Rattle.grids.specs.CsvFields.{headings_of, records_of}
+use Rattle.grids.specs.JsonReads.{IsTextOf}
 use Rattle.views.specs.declared.layouts.Layout.{Layout}
 use Rattle.views.specs.declared.layouts.Layout.TheVariants.{Aligned, Csv, Json}
 use Rattle.views.specs.declared.showing.Show.{Show}

@@ -9,7 +9,7 @@ use Rattle.leaves.specs.Contents.{Contents}
 use Rattle.grids.specs.Aligned.{aligned_text}
 use Rattle.grids.specs.Cells.{Headings, Rows}
 use Rattle.grids.specs.Shown.{dash, shown_text}
-use Rattle.grid_csv.specs.Fields.{headings_of}
+use Rattle.grids.specs.CsvFields.{headings_of}
 use Rattle.task_tables.specs.Tasks.{four_fields}
 use Rattle.views.specs.Cells.{rest_text}
 use Rattle.views.specs.Leaves.{HaveOneTable, HeldBoth}

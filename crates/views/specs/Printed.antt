@@ -7,7 +7,7 @@ use Rattle.filings.specs.Filings.{exact_findings, bounded_findings}
 use Rattle.task_tables.specs.Tables.{table_names}
 use Rattle.grids.specs.Aligned.{aligned_text}
 use Rattle.grids.specs.Cells.{Headings, Rows}
-use Rattle.grid_csv.specs.Fields.{headings_of}
+use Rattle.grids.specs.CsvFields.{headings_of}
 use Rattle.views.specs.declared.counted.Counted.{Counted}
 use Rattle.views.specs.Cells.{counted_texts}
 use Rattle.views.specs.Ranked.{shown_rows}

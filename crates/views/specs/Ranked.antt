@@ -11,7 +11,7 @@ use Rattle.leaves.specs.Contents.{Contents}
 use Rattle.leaves.specs.Headings.{heading_plain}
 use Rattle.grids.specs.Cells.{Rows}
 use Rattle.grids.specs.Shown.{shown_of}
-use Rattle.grid_csv.specs.Fields.{field_of}
+use Rattle.grids.specs.CsvFields.{field_of}
 use Rattle.views.specs.Cells.{heading_fields, record_fields}
 
 -- the rows of a table as people read them

@@ -8,7 +8,7 @@ use Rattle.bounds.specs.Values.{accuracy_of}
 use Rattle.leaves.specs.Contents.{Contents}
 use Rattle.grids.specs.Aligned.{aligned_text}
 use Rattle.grids.specs.Cells.{Headings, Rows}
-use Rattle.grid_csv.specs.Fields.{headings_of}
+use Rattle.grids.specs.CsvFields.{headings_of}
 use Rattle.views.specs.Cells.{leaf_texts}
 use Rattle.views.specs.Ranked.{shown_rows, told_rows}
 

@@ -6,7 +6,7 @@ ghost use Rattle.rows.specs.Found.{tells, verdict_rest};
 ghost use Rattle.leaves.specs.Contents.{Contents};
 ghost use Rattle.reading.specs.Leaves.{Holds};
 ghost use Rattle.grids.specs.Shown.{shown_of};
-ghost use Rattle.grid_csv.specs.Fields.{headings_of};
+ghost use Rattle.grids.specs.CsvFields.{headings_of};
 ghost use Rattle.views.specs.Compared.{AreCompared, IsComparison, IsComparisonOf, compared_columns, compared_head, compared_of, compared_texts, do_part, first_compared, frame_line, later_text, named_line};
 ghost use Rattle.views.specs.Leaves.{name_of};
 ghost use Rattle.views.specs.Ranked.{shown_rows};

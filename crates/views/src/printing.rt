@@ -3,7 +3,7 @@ ghost use Rattle.std.specs.Prelude.{◌≡◌, ◌==◌, ◌<◌, ◌∷◌, [],
 ghost use Rattle.rows.specs.Judging.{plain};
 ghost use Rattle.rows.specs.Found.{tells, verdict_rest};
 ghost use Rattle.grids.specs.Shown.{shown_of};
-ghost use Rattle.grid_csv.specs.Fields.{headings_of};
+ghost use Rattle.grids.specs.CsvFields.{headings_of};
 ghost use Rattle.brackets.specs.Counting.{gap};
 ghost use Rattle.views.specs.Cells.{counted_texts, slack_of};
 ghost use Rattle.views.specs.Counted.{filed_of};

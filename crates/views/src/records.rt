@@ -4,7 +4,7 @@ ghost use Rattle.rows.specs.Judging.{plain};
 ghost use Rattle.rows.specs.Refusals.{number, words};
 ghost use Rattle.rows.specs.Found.{tells};
 ghost use Rattle.leaves.specs.Headings.{heading_plain};
-ghost use Rattle.grid_csv.specs.Fields.{field_of};
+ghost use Rattle.grids.specs.CsvFields.{field_of};
 ghost use Rattle.views.specs.Cells.{damage_fields, heading_fields, record_fields, row_cells};
 
 use crate::damage::Damage;

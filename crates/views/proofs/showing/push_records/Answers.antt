@@ -2,7 +2,7 @@ use Rattle.std.proofs.Common.{rules, map, ◌+◌, ◌<◌, length, ap, ◌∙�
 use Rattle.rows.specs.Judging.{plain}
 use Rattle.rows.specs.Found.{tells}
 use Rattle.leaves.specs.Headings.{heading_plain}
-use Rattle.grid_csv.specs.Fields.{field_of}
+use Rattle.grids.specs.CsvFields.{field_of}
 use Rattle.views.specs.Ranked.{field_rows}
 use Rattle.views.specs.Cells.{record_fields}
 use Rattle.views.proofs.Told.{none_within, table_next}

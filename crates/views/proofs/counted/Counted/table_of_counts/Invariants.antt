@@ -1,5 +1,5 @@
 use Rattle.std.proofs.Common.{◌≡◌}
-use Rattle.grid_csv.specs.Fields.{headings_of}
+use Rattle.grids.specs.CsvFields.{headings_of}
 use Rattle.views.specs.Printed.{count_columns, first_told}
 use Rattle.views.specs.Ranked.{shown_rows}
 use Rattle.views.proofs.counted.Counted.table_of_counts.Given as goal

@@ -1,7 +1,0 @@
-//! Tables of cells as CSV.
-#![tactic(auto)]
-
-mod records;
-mod writing;
-
-pub use writing::to_csv;

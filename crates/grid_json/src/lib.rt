@@ -1,6 +1,0 @@
-//! Tables of cells as JSON.
-#![tactic(auto)]
-
-mod writing;
-
-pub use writing::to_json;
