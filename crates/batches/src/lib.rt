@@ -55,6 +55,13 @@ impl Batches {
         Ok(Batches { accuracy, size })
     }
 
+    /// How many jobs a batch has: 1 to the horizon (docs/OWN_BOUND.md, The example).
+    pub fn size(&self) -> u32
+        ensures { result ≡ (parameters_of self.now).size }
+    {
+        self.size
+    }
+
     // How many jobs are counted for a number of jobs.
     #[tactic(auto, using(rows::proofs::Ceiling::ceiling_by_quotient))]
     fn batch_count(&self, jobs: u64) -> u64
