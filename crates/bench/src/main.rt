@@ -8,9 +8,9 @@
 #[cfg(test)]
 mod tests;
 
-use scripts::run;
+use scripts::{name_failure, run};
 
 fn main(rt: HostRuntime) -> anyhow::Result<()> {
-    run(&mut rt.stdin(), &mut rt.stdout())?;
+    run(&mut rt.stdin(), &mut rt.stdout()).map_err(|failure| name_failure(failure))?;
     Ok(())
 }

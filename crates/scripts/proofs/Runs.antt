@@ -3,8 +3,8 @@ use Rattle.std.proofs.Common.{◌≡◌, ℕ, List, [], ◌∷◌, ◌++◌, Opt
 use Rattle.std.proofs.KnownBytes.{Appends-trans, Appends-kept, Consumes-trans, Consumes-kept}
 use Rattle.std.specs.Io.KnownBytes.{Appends, Consumes, IsAtEnd}
 use Rattle.std.specs.declared.io.Error.{Error}
-use Rattle.scripts.specs.declared.running.Failure.{Failure}
-use Rattle.scripts.specs.declared.running.Failure.TheVariants.{Reading, Writing}
+use Rattle.streams.specs.declared.failures.Failure.{Failure}
+use Rattle.streams.specs.declared.failures.Failure.TheVariants.{Reading, Writing}
 use Rattle.scripts.specs.Blocks.{PlayedOn, FailsBlock, FailsEnd}
 use Rattle.scripts.specs.Progress.{Progress, first_progress, after_byte, written_for_byte, after_bytes, written_for_bytes, written_last}
 use Rattle.streams.specs.Held.{MayHold}

@@ -1,8 +1,8 @@
 -- What some bytes that are read and played leave.
 use Rattle.std.specs.Prelude.{◌≡◌, ℕ, List, Option}
 use Rattle.std.specs.Io.KnownBytes.{Appends, Consumes, Keeps}
-use Rattle.scripts.specs.declared.running.Failure.{Failure}
-use Rattle.scripts.specs.declared.running.Failure.TheVariants.{Reading, Writing}
+use Rattle.streams.specs.declared.failures.Failure.{Failure}
+use Rattle.streams.specs.declared.failures.Failure.TheVariants.{Reading, Writing}
 use Rattle.scripts.specs.Progress.{Progress, after_bytes, written_for_bytes, written_last}
 use Rattle.scripts.specs.Written.{Begun}
 

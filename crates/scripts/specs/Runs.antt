@@ -6,8 +6,8 @@ use Rattle.bounds.specs.Meaning.{Meaning, is_accuracy}
 use Rattle.bounds.specs.Supplied.{exact_steps, linear_tail}
 use Rattle.admission.specs.declared.calls.Call.{Call}
 use Rattle.admission.specs.Runs.{answers_to}
-use Rattle.scripts.specs.declared.running.Failure.{Failure}
-use Rattle.scripts.specs.declared.running.Failure.TheVariants.{Reading, Writing}
+use Rattle.streams.specs.declared.failures.Failure.{Failure}
+use Rattle.streams.specs.declared.failures.Failure.TheVariants.{Reading, Writing}
 use Rattle.scripts.specs.Scripts.{line_feed, without_return, ended_lines, script_lines}
 use Rattle.scripts.specs.Sessions.{first_stage, output_from}
 use Rattle.scripts.specs.Texts.{answer_text, call_text, exact_text, linear_text, FitsLine}

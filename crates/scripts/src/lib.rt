@@ -15,5 +15,6 @@ mod words;
 pub use expecting::Expected;
 pub use forms::{Field, Form};
 pub use lines::{Line, parse};
-pub use running::{Failure, run};
+pub use running::{name_failure, run};
 pub use shown::{CallLine, NoCallLine, ReplyLine};
+pub use streams::Failure;

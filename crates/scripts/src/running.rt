@@ -6,31 +6,19 @@ ghost use Rattle.scripts.specs.Runs.{Plays, HasPlayed, BeginsToPlay, CallsAreAns
 ghost use Rattle.scripts.specs.Blocks.{PlayedOn, FailsBlock, FailsEnd};
 
 use crate::player::Player;
-use std::error::Error;
+use std::io;
 use std::io::{ErrorKind, Read, Write};
-use std::{fmt, io};
-use streams::read_again;
+use streams::{Failure, NamedFailure, read_again};
 
 // So many bytes are read at a time.
 const BLOCK: usize = 4096;
 
-/// Why a script was not played to its end: its bytes could not be read, or the answers not be written.
-#[derive(Debug, Drop)]
-pub enum Failure {
-    Reading(io::Error),
-    Writing(io::Error),
+/// A failure of `run` with the names of what it read and wrote, as people are told it.
+pub fn name_failure(failure: Failure) -> NamedFailure
+    ensures { result.failure ≡ failure }
+{
+    failure.named("the script", "the answers")
 }
-
-impl fmt::Display for Failure {
-    fn fmt<W: fmt::Write>(&self, f: &mut fmt::Formatter<W>) -> fmt::Result {
-        match self {
-            Failure::Reading(error) => write!(f, "the script could not be read: {error}"),
-            Failure::Writing(error) => write!(f, "the answers could not be written: {error}"),
-        }
-    }
-}
-
-impl Error for Failure {}
 
 /// Plays the script that a reader holds on a new bench, and writes the answers to a writer
 /// (docs/PROGRAMS.md, `bench`). It reads to the end of the input, up to 4096 bytes at a time, and

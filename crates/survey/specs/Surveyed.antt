@@ -1,8 +1,8 @@
 -- What a survey of what a reader holds has read, and what a writer has got where it has failed.
 use Rattle.std.specs.Prelude.{ℕ, ◌<◌, List, Option, length, take, Ok, Err, Result, IfSome}
 use Rattle.std.specs.Io.KnownBytes.{Appends, Consumes, Keeps}
-use Rattle.survey.specs.declared.surveying.Failure.{Failure}
-use Rattle.survey.specs.declared.surveying.Failure.TheVariants.{Reading, Writing}
+use Rattle.streams.specs.declared.failures.Failure.{Failure}
+use Rattle.streams.specs.declared.failures.Failure.TheVariants.{Reading, Writing}
 use Rattle.sheets.specs.Answers.{deciding}
 use Rattle.survey.specs.Answering.{IsAnswerToHeld}
 

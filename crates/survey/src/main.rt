@@ -9,9 +9,9 @@ mod surveying;
 #[cfg(test)]
 mod tests;
 
-use surveying::run;
+use surveying::{name_failure, run};
 
 fn main(rt: HostRuntime) -> anyhow::Result<()> {
-    run(&mut rt.stdin(), &mut rt.stdout())?;
+    run(&mut rt.stdin(), &mut rt.stdout()).map_err(name_failure)?;
     Ok(())
 }

@@ -1,5 +1,5 @@
 // What a reader holds, answered into a writer.
-ghost use Rattle.std.specs.Prelude.{ℕ, ◌≤◌, List, length, OnOk, IfErr};
+ghost use Rattle.std.specs.Prelude.{◌≡◌, ℕ, ◌≤◌, List, length, OnOk, IfErr};
 ghost use Rattle.std.specs.Io.KnownBytes.{Appends, Consumes};
 ghost use Rattle.sheets.specs.Answers.{deciding};
 ghost use Rattle.survey.specs.Answering.{IsAnswerToHeld};
@@ -7,29 +7,15 @@ ghost use Rattle.survey.specs.Surveyed.{HasGot, HasRead};
 
 use crate::answers::read_answer;
 use sheets::MOST_ANSWER;
-use std::error::Error;
 use std::io::{Read, Write};
-use std::{fmt, io};
-use streams::put;
+use streams::{Failure, NamedFailure, put};
 
-/// Why a sheet was not answered, or not to the end: its bytes could not be read, or those of the
-/// answer not be written.
-#[derive(Debug, Drop)]
-pub(crate) enum Failure {
-    Reading(io::Error),
-    Writing(io::Error),
+/// A failure of `run` with the names of what it read and wrote, as people are told it.
+pub(crate) fn name_failure(failure: Failure) -> NamedFailure
+    ensures { result.failure ≡ failure }
+{
+    failure.named("the sheet", "the answer")
 }
-
-impl fmt::Display for Failure {
-    fn fmt<W: fmt::Write>(&self, f: &mut fmt::Formatter<W>) -> fmt::Result {
-        match self {
-            Failure::Reading(error) => write!(f, "the sheet could not be read: {error}"),
-            Failure::Writing(error) => write!(f, "the answer could not be written: {error}"),
-        }
-    }
-}
-
-impl Error for Failure {}
 
 /// Reads a sheet from a reader and writes its answer to a writer (docs/FORMAT.md, The answer to a
 /// sheet). Of the input, however long it is, no more is read than the bytes that decide.

@@ -1,9 +1,9 @@
 // The worked sheet of docs/FORMAT.md through readers and writers that give and take a byte at a time, are interrupted,
 // and fail.
-use crate::surveying::{Failure, run};
-use std::alloc::Global;
+use crate::surveying::run;
+use faulty::{Giver, Taker, told};
 use std::io;
-use std::io::{ErrorKind, Read, Write};
+use std::io::{ErrorKind, Read};
 use std::test::Fail;
 
 // The worked leaf: a sheet of 58 bytes, three findings and the end.
@@ -21,91 +21,6 @@ const WORKED: [u8; 90] = [
 // So many of its bytes are the sheet.
 const SHEET: usize = 58;
 
-// Gives a byte a read, each after an interruption; and then the end of the input, or an error.
-#[derive(Drop)]
-struct Giver<'a> {
-    bytes: &'a [u8],
-    interrupted: bool,
-    fails: bool,
-}
-
-impl Giver<'_> {
-    fn of(bytes: &[u8], fails: bool) -> Giver<'_> {
-        Giver {
-            bytes,
-            interrupted: false,
-            fails,
-        }
-    }
-}
-
-impl Read for Giver<'_> {
-    fn read(&mut self, buffer: &mut [u8]) -> io::Result<usize> {
-        self.interrupted = !self.interrupted;
-        if self.interrupted {
-            return Err(io::Error::from(ErrorKind::Interrupted));
-        }
-        if self.fails && self.bytes.is_empty() {
-            return Err(io::Error::from(ErrorKind::ConnectionReset));
-        }
-        let one = buffer.len().min(1);
-        self.bytes.read(&mut buffer[..one])
-    }
-}
-
-// Takes a byte a write, each after an interruption, as many as it has room for; and then none, or fails.
-#[derive(Drop)]
-struct Taker {
-    bytes: Vec<u8>,
-    interrupted: bool,
-    room: usize,
-    fails: bool,
-}
-
-impl Taker {
-    fn of(alloc: Global, room: usize, fails: bool) -> Taker {
-        Taker {
-            bytes: Vec::new(alloc),
-            interrupted: false,
-            room,
-            fails,
-        }
-    }
-}
-
-impl Write for Taker {
-    fn write(&mut self, buffer: &[u8]) -> io::Result<usize> {
-        self.interrupted = !self.interrupted;
-        if self.interrupted {
-            return Err(io::Error::from(ErrorKind::Interrupted));
-        }
-        if self.bytes.len() < self.room {
-            return self.bytes.write(&buffer[..buffer.len().min(1)]);
-        }
-        if self.fails {
-            Err(io::Error::from(ErrorKind::StorageFull))
-        } else {
-            Ok(0)
-        }
-    }
-
-    fn flush(&mut self) -> io::Result<()> {
-        if self.fails {
-            Err(io::Error::from(ErrorKind::BrokenPipe))
-        } else {
-            Ok(())
-        }
-    }
-}
-
-// What went wrong: whether it was a read, and the kind of its error.
-fn told(failure: &Failure) -> (bool, ErrorKind) {
-    match failure {
-        Failure::Reading(error) => (true, error.kind()),
-        Failure::Writing(error) => (false, error.kind()),
-    }
-}
-
 #[test]
 fn sheet_at_once(rt: HostRuntime) -> Result<(), Fail> {
     let mut reader = &WORKED[..SHEET];
@@ -118,8 +33,8 @@ fn sheet_at_once(rt: HostRuntime) -> Result<(), Fail> {
 
 #[test]
 fn sheet_byte_by_byte(rt: HostRuntime) -> Result<(), Fail> {
-    let mut writer = Taker::of(rt.alloc(), WORKED.len(), false);
-    run(&mut Giver::of(&WORKED[..SHEET], false), &mut writer)?;
+    let mut writer = Taker::of(rt.alloc(), WORKED.len(), None);
+    run(&mut Giver::of(&WORKED[..SHEET], None), &mut writer)?;
     assert_eq!(rt; writer.bytes.as_slice(), WORKED.as_slice());
     Ok(())
 }
@@ -137,8 +52,11 @@ fn endless_input(rt: HostRuntime) -> Result<(), Fail> {
 #[test]
 fn failed_reads(rt: HostRuntime) -> Result<(), Fail> {
     for given in 0..=SHEET {
-        let mut writer = Taker::of(rt.alloc(), WORKED.len(), false);
-        let result = run(&mut Giver::of(&WORKED[..given], true), &mut writer);
+        let mut writer = Taker::of(rt.alloc(), WORKED.len(), None);
+        let result = run(
+            &mut Giver::of(&WORKED[..given], Some(ErrorKind::ConnectionReset)),
+            &mut writer,
+        );
         let Err(failure) = result else {
             return Err(Fail::from("read past an error"));
         };
@@ -155,12 +73,12 @@ fn failed_reads(rt: HostRuntime) -> Result<(), Fail> {
 #[test]
 fn failed_writes(rt: HostRuntime) -> Result<(), Fail> {
     for (fails, kind) in [
-        (false, ErrorKind::WriteZero),
-        (true, ErrorKind::StorageFull),
+        (None, ErrorKind::WriteZero),
+        (Some(ErrorKind::StorageFull), ErrorKind::StorageFull),
     ] {
         for room in 0..WORKED.len() {
             let mut writer = Taker::of(rt.alloc(), room, fails);
-            let result = run(&mut Giver::of(&WORKED[..SHEET], false), &mut writer);
+            let result = run(&mut Giver::of(&WORKED[..SHEET], None), &mut writer);
             let Err(failure) = result else {
                 return Err(Fail::from("written past an error"));
             };
@@ -173,8 +91,9 @@ fn failed_writes(rt: HostRuntime) -> Result<(), Fail> {
 
 #[test]
 fn failed_flush(rt: HostRuntime) -> Result<(), Fail> {
-    let mut writer = Taker::of(rt.alloc(), WORKED.len(), true);
-    let result = run(&mut Giver::of(&WORKED[..SHEET], false), &mut writer);
+    let mut writer = Taker::of(rt.alloc(), WORKED.len(), None);
+    writer.flush = Some(ErrorKind::BrokenPipe);
+    let result = run(&mut Giver::of(&WORKED[..SHEET], None), &mut writer);
     let Err(failure) = result else {
         return Err(Fail::from("flushed past an error"));
     };

@@ -11,7 +11,10 @@ pub(crate) fn bench(rt: &HostRuntime, given: &ArgMatches<'_>) -> Result<(), Fail
     let mut reader = open_or_complain(rt, script)?;
     match scripts::run(&mut reader, &mut rt.stdout()) {
         Ok(()) => Ok(()),
-        Err(failure) => Err(complain(rt, failed(&failure, script.name()), &failure)),
+        Err(failure) => {
+            let name = failed(&failure, script.name());
+            Err(complain(rt, name, &scripts::name_failure(failure)))
+        }
     }
 }
 
