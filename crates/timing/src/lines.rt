@@ -7,22 +7,22 @@ use std::alloc::Global;
 
 /// A line: a work that has no table yet, the frame of a table, or a row.
 #[derive(Debug, Drop)]
-pub(crate) enum Line {
+pub(crate) enum WorkLine {
     Work(Work),
     Table(FrameNumbers),
     Row(Row),
 }
 
-impl Line {
+impl WorkLine {
     /// The line that a text tells.
-    pub(crate) fn parse(alloc: Global, text: &str) -> anyhow::Result<Line> {
+    pub(crate) fn parse(alloc: Global, text: &str) -> anyhow::Result<WorkLine> {
         match text.split_once(' ') {
-            Some(("work", rest)) => Ok(Line::Work(work(alloc, rest)?)),
+            Some(("work", rest)) => Ok(WorkLine::Work(work(alloc, rest)?)),
             Some(("table", rest)) => {
                 let ticks = rest.parse().context("reading a frame")?;
-                Ok(Line::Table(FrameNumbers { ticks }))
+                Ok(WorkLine::Table(FrameNumbers { ticks }))
             }
-            Some(("row", rest)) => Ok(Line::Row(row(alloc, rest)?)),
+            Some(("row", rest)) => Ok(WorkLine::Row(row(alloc, rest)?)),
             _ => bail!("a line begins with work, table or row: {text:?}"),
         }
     }

@@ -11,8 +11,8 @@ mod works;
 
 use anyhow::Context;
 use bounds::{ExactSteps, Supplied};
-use lines::Line;
-use outcomes::Outcome;
+use lines::WorkLine;
+use outcomes::WorkOutcome;
 use std::io::{BufRead, BufReader};
 use std::rt::Clock;
 use surveys::play_survey;
@@ -20,7 +20,7 @@ use swaps::play_swap;
 use works::{Action, Work};
 
 // Plays a work by a bound. Each bound that the toolkit supplies has its own code.
-fn play(rt: &impl Clock, work: &Work) -> anyhow::Result<Outcome> {
+fn play(rt: &impl Clock, work: &Work) -> anyhow::Result<WorkOutcome> {
     match (work.action, work.bound) {
         (Action::Survey, Supplied::ExactSteps) => play_survey(rt, &ExactSteps, work),
         (Action::Survey, Supplied::LinearTail(tail)) => play_survey(rt, &tail, work),
@@ -51,8 +51,8 @@ fn run(rt: &HostRuntime) -> anyhow::Result<()> {
     for (i, text) in lines.enumerate() {
         let text = text?;
         let number = i.saturating_add(1);
-        let line = Line::parse(alloc, &text).context(format_args!("line {number}"))?;
-        if let Line::Work(next) = line {
+        let line = WorkLine::parse(alloc, &text).context(format_args!("line {number}"))?;
+        if let WorkLine::Work(next) = line {
             if let Some(played) = work.replace(next) {
                 play_and_print(rt, &played)?;
             }

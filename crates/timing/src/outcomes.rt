@@ -4,7 +4,7 @@ use rows::MOST_ROWS;
 
 /// How many rows met in the last round, a digest of all that was found, and how long the rounds took.
 #[derive(Clone, Copy, PartialEq, Eq, Debug)]
-pub(crate) struct Outcome {
+pub(crate) struct WorkOutcome {
     pub(crate) met: usize,
     pub(crate) digest: u64,
     pub(crate) nanoseconds: u128,

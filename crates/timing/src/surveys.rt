@@ -1,6 +1,6 @@
 // Surveys of many tables, timed.
 use crate::digests::with_findings;
-use crate::outcomes::{NO_FINDINGS, Outcome};
+use crate::outcomes::{NO_FINDINGS, WorkOutcome};
 use crate::works::Work;
 use bounds::Bound;
 use findings::recount;
@@ -9,7 +9,11 @@ use std::rt::Clock;
 use std::time::Instant;
 
 // The digest after a survey of each table, and how many rows met.
-fn survey_round<B: Bound>(bound: &B, tables: &[Table], digest: u64) -> Result<(usize, u64), Fault> {
+fn survey_round<B: Bound>(
+    bound: &B,
+    tables: &[Table],
+    digest: u64,
+) -> Result<(usize, u64), Fault> {
     let mut list = NO_FINDINGS;
     let mut met: usize = 0;
     let mut digest = digest;
@@ -27,7 +31,7 @@ pub(crate) fn play_survey<B: Bound>(
     rt: &impl Clock,
     bound: &B,
     work: &Work,
-) -> anyhow::Result<Outcome> {
+) -> anyhow::Result<WorkOutcome> {
     let mut met = 0;
     let mut digest = 0;
     let start = Instant::now(rt)?;
@@ -35,7 +39,7 @@ pub(crate) fn play_survey<B: Bound>(
         (met, digest) = survey_round(bound, &work.tables, digest)?;
     }
     let nanoseconds = start.elapsed(rt)?.as_nanos();
-    Ok(Outcome {
+    Ok(WorkOutcome {
         met,
         digest,
         nanoseconds,

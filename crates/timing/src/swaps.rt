@@ -1,6 +1,6 @@
 // Swaps on a full bench, timed.
 use crate::digests::with_findings;
-use crate::outcomes::Outcome;
+use crate::outcomes::WorkOutcome;
 use crate::works::Work;
 use admission::Bench;
 use anyhow::bail;
@@ -33,7 +33,7 @@ pub(crate) fn play_swap<B: Bound + Drop>(
     bound: B,
     rank: usize,
     work: &Work,
-) -> anyhow::Result<Outcome> {
+) -> anyhow::Result<WorkOutcome> {
     let [table] = &*work.tables else {
         bail!("a bench has one table");
     };
@@ -48,7 +48,7 @@ pub(crate) fn play_swap<B: Bound + Drop>(
         swap(&mut bench, rank, numbers)?;
     }
     let nanoseconds = start.elapsed(rt)?.as_nanos();
-    Ok(Outcome {
+    Ok(WorkOutcome {
         met: count_met(bench.findings()),
         digest: with_findings(digest, bench.findings()),
         nanoseconds,

@@ -1,5 +1,5 @@
 // Works: what is done with tables, by which bound, and how often.
-use crate::lines::Line;
+use crate::lines::WorkLine;
 use anyhow::{Context, bail};
 use bounds::Supplied;
 use rows::Table;
@@ -31,14 +31,14 @@ impl Work {
     }
 
     /// Adds what a line after that of the work tells: a table, or a row of the last one.
-    pub(crate) fn add(&mut self, line: &Line) -> anyhow::Result<()> {
+    pub(crate) fn add(&mut self, line: &WorkLine) -> anyhow::Result<()> {
         match line {
-            Line::Table(frame) => self.tables.push(Table::new(&frame.judge()?))?,
-            Line::Row(row) => {
+            WorkLine::Table(frame) => self.tables.push(Table::new(&frame.judge()?))?,
+            WorkLine::Row(row) => {
                 let table = self.tables.last_mut().context("no table before its rows")?;
                 table.put_in(table.len() + 1, *row)?;
             }
-            Line::Work(_) => bail!("a work has no works"),
+            WorkLine::Work(_) => bail!("a work has no works"),
         }
         Ok(())
     }
