@@ -10,7 +10,7 @@ use Rattle.bounds.specs.Supplied.{exact_steps, linear_tail}
 use Rattle.admission.specs.declared.calls.Call.{Call}
 use Rattle.admission.specs.Books.{first_book, step}
 use Rattle.admission.specs.Runs.{answers_from}
-use Rattle.scripts.specs.declared.lines.Line.{Line}
+use Rattle.scripts.specs.declared.lines.ScriptLine.{ScriptLine}
 use Rattle.scripts.specs.Runs.{as_lines, script_output, AnswersCalls, CallsAreAnswered}
 use Rattle.scripts.specs.Scripts.{line_feed}
 use Rattle.scripts.specs.Sessions.{State, Reaction, named, unnamed, silent, answers, first_stage, output_from, heard, reaction_text, next_number}
@@ -23,7 +23,7 @@ plain_calls [] fits = tt
 plain_calls (call ∷ calls) fits = (Plain-call call fits.0, plain_calls calls fits.1)
 
 -- the output for lines of which the first is read as a line
-first_read : (s : State) (n : ℕ) (lines : List (List ℕ)) → Line → List ℕ
+first_read : (s : State) (n : ℕ) (lines : List (List ℕ)) → ScriptLine → List ℕ
 first_read s n lines l = reaction_text n (heard s l).1 ++ output_from (record { number = n; state = (heard s l).0 }) lines
 
 -- calls are answered one after the other

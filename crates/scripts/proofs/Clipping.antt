@@ -3,8 +3,8 @@ use Rattle.std.proofs.Common.{◌≡◌, ℕ, ◌<◌, Bool, cond, List, length,
 use Rattle.std.specs.Prelude.{◌==◌}
 use Rattle.std.proofs.lemmas.Bool.{cases_lt, lt-ltb}
 use Rattle.std.proofs.lemmas.List.{take_all, length-take-le, get_or-take}
-use Rattle.scripts.specs.declared.expecting.Expected.TheVariants.{ShortLine}
-use Rattle.scripts.specs.declared.lines.Line.TheVariants.{Passed, NoCall}
+use Rattle.scripts.specs.declared.expecting.ExpectedWords.TheVariants.{ShortLine}
+use Rattle.scripts.specs.declared.lines.ScriptLine.TheVariants.{Passed, NoCall}
 use Rattle.scripts.specs.Lines.{line_by_words, line_of}
 use Rattle.scripts.specs.Words.{words_of}
 

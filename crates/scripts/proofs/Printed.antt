@@ -9,7 +9,7 @@ use Rattle.std.proofs.lemmas.Fmt.{length-decimal-le}
 use Rattle.std.proofs.lemmas.List.{length-append}
 use Rattle.admission.specs.declared.calls.Call.{Call as BenchCall}
 use Rattle.admission.specs.declared.calls.Call.TheVariants.{Frame, Admit, Dismiss, Inquire}
-use Rattle.scripts.specs.declared.lines.Line.TheVariants.{Call, Linear}
+use Rattle.scripts.specs.declared.lines.ScriptLine.TheVariants.{Call, Linear}
 use Rattle.scripts.specs.Lines.{line_of}
 use Rattle.scripts.specs.Texts.{call_text, linear_text, numbers_text, FitsLine}
 use Rattle.numerals.specs.Numerals.{is_blank, number_of}

@@ -3,11 +3,11 @@ use Rattle.std.specs.Prelude.{ℕ, Bool, true, false, List, [], ◌∷◌, Optio
 use Rattle.std.specs.Str.{bytes_eq}
 use Rattle.scripts.specs.declared.forms.Field.{Field}
 use Rattle.scripts.specs.declared.forms.Field.TheVariants.{Rank, Accuracy, Frame as FrameField, Work, Deadline, Period, Jitter}
-use Rattle.scripts.specs.declared.forms.Form.{Form}
-use Rattle.scripts.specs.declared.forms.Form.TheVariants.{Exact, Linear, Frame, Admit, Dismiss, Inquire}
+use Rattle.scripts.specs.declared.forms.LineForm.{LineForm}
+use Rattle.scripts.specs.declared.forms.LineForm.TheVariants.{Exact, Linear, Frame, Admit, Dismiss, Inquire}
 
 -- the first word of a line of a form
-abbrev pub form_name : Form → List ℕ
+abbrev pub form_name : LineForm → List ℕ
 form_name Exact = codes "exact"
 form_name Linear = codes "linear"
 form_name Frame = codes "frame"
@@ -16,7 +16,7 @@ form_name Dismiss = codes "dismiss"
 form_name Inquire = codes "inquire"
 
 -- the numbers that follow it, in order
-abbrev pub form_fields : Form → List Field
+abbrev pub form_fields : LineForm → List Field
 form_fields Exact = []
 form_fields Linear = Accuracy ∷ []
 form_fields Frame = FrameField ∷ []
@@ -25,16 +25,16 @@ form_fields Dismiss = Rank ∷ []
 form_fields Inquire = Rank ∷ []
 
 -- the forms that a line may have: of the calls once a bound has been named, else of the bounds
-abbrev pub forms_once : Bool → List Form
+abbrev pub forms_once : Bool → List LineForm
 forms_once true = Frame ∷ Admit ∷ Dismiss ∷ Inquire ∷ []
 forms_once false = Exact ∷ Linear ∷ []
 
 -- the one of them whose name a word is
-abbrev pub form_for : Bool → List ℕ → Option Form
+abbrev pub form_for : Bool → List ℕ → Option LineForm
 form_for named word = find (λ form. bytes_eq (form_name form) word) (forms_once named)
 
 -- a form with its numbers by name, as bytes
-abbrev pub form_text : Form → List ℕ
+abbrev pub form_text : LineForm → List ℕ
 form_text Exact = codes "exact"
 form_text Linear = codes "linear K"
 form_text Frame = codes "frame H"

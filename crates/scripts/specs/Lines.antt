@@ -3,13 +3,13 @@ use Rattle.std.specs.Prelude.{ℕ, Bool, true, false, List, [], ◌∷◌, lengt
 use Rattle.std.specs.Option.{option_map_or}
 use Rattle.rows.specs.Frames.{frame_of}
 use Rattle.admission.specs.declared.calls.Call.TheVariants.{Frame as SetFrame, Admit as AdmitRow, Dismiss as DismissRow, Inquire as InquireRow}
-use Rattle.scripts.specs.declared.expecting.Expected.{Expected}
-use Rattle.scripts.specs.declared.expecting.Expected.TheVariants.{ShortLine, Bound, CallName, Form as WordsOfForm, Number}
+use Rattle.scripts.specs.declared.expecting.ExpectedWords.{ExpectedWords}
+use Rattle.scripts.specs.declared.expecting.ExpectedWords.TheVariants.{ShortLine, Bound, CallName, Form as WordsOfForm, Number}
 use Rattle.scripts.specs.declared.forms.Field.{Field}
-use Rattle.scripts.specs.declared.forms.Form.{Form}
-use Rattle.scripts.specs.declared.forms.Form.TheVariants.{Exact, Linear, Frame, Admit, Dismiss, Inquire}
-use Rattle.scripts.specs.declared.lines.Line.{Line}
-use Rattle.scripts.specs.declared.lines.Line.TheVariants.{Passed, Exact as ExactSteps, Linear as LinearTail, Call, NoCall}
+use Rattle.scripts.specs.declared.forms.LineForm.{LineForm}
+use Rattle.scripts.specs.declared.forms.LineForm.TheVariants.{Exact, Linear, Frame, Admit, Dismiss, Inquire}
+use Rattle.scripts.specs.declared.lines.ScriptLine.{ScriptLine}
+use Rattle.scripts.specs.declared.lines.ScriptLine.TheVariants.{Passed, Exact as ExactSteps, Linear as LinearTail, Call, NoCall}
 use Rattle.scripts.specs.Forms.{form_fields, form_for}
 use Rattle.numerals.specs.Numerals.{number_of}
 use Rattle.scripts.specs.Words.{words_of}
@@ -27,7 +27,7 @@ numbers_of (field ∷ fields) (word ∷ words) =
     option_map_or (λ n. put_first n (numbers_of fields words)) (number_of word) (Err field)
 
 -- what a line of a form says by its numbers
-abbrev pub line_by_numbers : Form → List ℕ → Line
+abbrev pub line_by_numbers : LineForm → List ℕ → ScriptLine
 line_by_numbers Exact ns = ExactSteps
 line_by_numbers Linear ns = LinearTail (slice_index ns 0)
 line_by_numbers Frame ns = Call (SetFrame (frame_of (slice_index ns 0)))
@@ -37,30 +37,30 @@ line_by_numbers Dismiss ns = Call (DismissRow (slice_index ns 0))
 line_by_numbers Inquire ns = Call (InquireRow (slice_index ns 0))
 
 -- the same where there are numbers, or that one was expected for a field
-abbrev pub line_by_reading : Form → Result (List ℕ) Field → Line
+abbrev pub line_by_reading : LineForm → Result (List ℕ) Field → ScriptLine
 line_by_reading form (Ok ns) = line_by_numbers form ns
 line_by_reading form (Err field) = NoCall (Number field)
 
 -- what a line says whose first word names a form, by the words after it
-abbrev pub line_by_form : Form → List (List ℕ) → Line
+abbrev pub line_by_form : LineForm → List (List ℕ) → ScriptLine
 line_by_form form words =
     if length words == length (form_fields form)
     then line_by_reading form (numbers_of (form_fields form) words)
     else NoCall (WordsOfForm form)
 
 -- what was expected where the first word names no form
-abbrev pub expected_name : Bool → Expected
+abbrev pub expected_name : Bool → ExpectedWords
 expected_name true = CallName
 expected_name false = Bound
 
 -- what a line says by its words
-abbrev pub line_by_words : Bool → List (List ℕ) → Line
+abbrev pub line_by_words : Bool → List (List ℕ) → ScriptLine
 line_by_words named [] = Passed
 line_by_words named (word ∷ words) =
     option_map_or (λ form. line_by_form form words) (form_for named word) (NoCall (expected_name named))
 
 -- what a line says: nothing where its first byte is #, whatever its length, and else by its words, if it is not too long
-abbrev pub line_of : Bool → List ℕ → Line
+abbrev pub line_of : Bool → List ℕ → ScriptLine
 line_of named line =
     if slice_index line 0 == 35 then Passed
     else (if nat_lt 128 (length line) then NoCall ShortLine else line_by_words named (words_of line))

@@ -8,9 +8,9 @@ use Rattle.bounds.specs.Supplied.{exact_steps, linear_tail}
 use Rattle.bounds.specs.Values.{meaning_of}
 use Rattle.admission.specs.Books.{first_book, step}
 use Rattle.admission.specs.Replies.{Told, answer_of}
-use Rattle.scripts.specs.declared.expecting.Expected.{Expected}
-use Rattle.scripts.specs.declared.lines.Line.{Line}
-use Rattle.scripts.specs.declared.lines.Line.TheVariants.{Exact, Linear, Call, NoCall}
+use Rattle.scripts.specs.declared.expecting.ExpectedWords.{ExpectedWords}
+use Rattle.scripts.specs.declared.lines.ScriptLine.{ScriptLine}
+use Rattle.scripts.specs.declared.lines.ScriptLine.TheVariants.{Exact, Linear, Call, NoCall}
 use Rattle.scripts.specs.declared.session.Remark.{Remark}
 use Rattle.scripts.specs.declared.session.Remark.TheVariants as remark
 use Rattle.scripts.specs.declared.session.Session.{Session}
@@ -28,7 +28,7 @@ pub data State : Type 0 where
 pub data Reaction : Type 0 where
   silent : Reaction
   answers : Answer Told → Reaction
-  no_call : Expected → Reaction
+  no_call : ExpectedWords → Reaction
 
 -- a bound has been named
 abbrev pub is_named : State → Bool
@@ -37,20 +37,20 @@ is_named (named m b) = true
 
 -- a line before a bound is named: it may name one, on whose new bench the calls are played then. One that is passed
 -- over does nothing
-abbrev pub naming : Line → State × Reaction
+abbrev pub naming : ScriptLine → State × Reaction
 naming Exact = (named exact_steps first_book, silent)
 naming (Linear k) = if is_accuracy k then (named (linear_tail k) first_book, silent) else (unnamed, answers (refuses BadAccuracy 0))
 naming (NoCall expected) = (unnamed, no_call expected)
 naming _ = (unnamed, silent)
 
 -- a line afterwards: it may be a call, which the book answers. One that is passed over does nothing
-abbrev pub calling : Meaning → Book → Line → State × Reaction
+abbrev pub calling : Meaning → Book → ScriptLine → State × Reaction
 calling m b (Call c) = (named m (step m b c).0, answers (step m b c).1)
 calling m b (NoCall expected) = (named m b, no_call expected)
 calling m b _ = (named m b, silent)
 
 -- what a line does in either state: the state that it comes to, and what there is to write for it
-abbrev pub heard : State → Line → State × Reaction
+abbrev pub heard : State → ScriptLine → State × Reaction
 heard unnamed line = naming line
 heard (named m b) line = calling m b line
 

@@ -7,8 +7,8 @@ use Rattle.rows.specs.Refusals.{number, words}
 use Rattle.admission.specs.declared.calls.Call.{Call}
 use Rattle.admission.specs.declared.calls.Call.TheVariants.{Frame, Admit, Dismiss, Inquire}
 use Rattle.admission.specs.Replies.{Told, done, row_found, tells_rank}
-use Rattle.scripts.specs.declared.expecting.Expected.{Expected}
-use Rattle.scripts.specs.declared.expecting.Expected.TheVariants.{ShortLine, Bound, CallName, Form, Number}
+use Rattle.scripts.specs.declared.expecting.ExpectedWords.{ExpectedWords}
+use Rattle.scripts.specs.declared.expecting.ExpectedWords.TheVariants.{ShortLine, Bound, CallName, Form, Number}
 use Rattle.scripts.specs.Forms.{field_text, form_text}
 
 -- four numbers, with blanks between them
@@ -60,7 +60,7 @@ answer_text (gives (row_found n f)) = codes "row " ++ (numbers_text n ++ finding
 answer_text (refuses r at) = codes "refused " ++ (decimal (number r) ++ (codes " " ++ (words r ++ rank_text r at)))
 
 -- what was expected where a line is no call
-abbrev pub expected_text : Expected → List ℕ
+abbrev pub expected_text : ExpectedWords → List ℕ
 expected_text ShortLine = codes "a line of at most 128 bytes"
 expected_text Bound = codes "exact or linear K"
 expected_text CallName = codes "frame, admit, dismiss or inquire"
@@ -68,5 +68,5 @@ expected_text (Form form) = form_text form
 expected_text (Number field) = codes "a number from 0 to 4294967295 for " ++ field_text field
 
 -- the line that answers one that is no call, by its number
-abbrev pub no_call_text : ℕ → Expected → List ℕ
+abbrev pub no_call_text : ℕ → ExpectedWords → List ℕ
 no_call_text line expected = codes "not a call at line " ++ (decimal line ++ (codes ": expected " ++ expected_text expected))

@@ -2,12 +2,12 @@
 ghost use Rattle.std.specs.Prelude.{Some};
 ghost use Rattle.scripts.specs.Texts.{expected_text};
 
-use crate::forms::{Field, Form};
+use crate::forms::{Field, LineForm};
 use std::fmt;
 
 /// What was expected in the place of a line that is no call (docs/PROGRAMS.md, `bench`).
 #[derive(Clone, Copy, PartialEq, Eq, Debug)]
-pub enum Expected {
+pub enum ExpectedWords {
     /// A line of at most 128 bytes.
     ShortLine,
     /// A line that names a bound: none has been named yet.
@@ -15,22 +15,24 @@ pub enum Expected {
     /// One of the four calls.
     CallName,
     /// As many words as the form has.
-    Form(Form),
+    Form(LineForm),
     /// A number from 0 to 4294967295 in the place of the leftmost word that is none.
     Number(Field),
 }
 
 // What was expected, as docs/PROGRAMS.md writes it: "exact or linear K".
-impl fmt::Display for Expected {
+impl fmt::Display for ExpectedWords {
     ghost output = { λ x. Some (expected_text x) };
 
     fn fmt<W: fmt::Write>(&self, f: &mut fmt::Formatter<W>) -> fmt::Result {
         match self {
-            Expected::ShortLine => write!(f, "a line of at most 128 bytes"),
-            Expected::Bound => write!(f, "exact or linear K"),
-            Expected::CallName => write!(f, "frame, admit, dismiss or inquire"),
-            Expected::Form(form) => write!(f, "{form}"),
-            Expected::Number(field) => { write!(f, "a number from 0 to 4294967295 for {field}") }
+            ExpectedWords::ShortLine => write!(f, "a line of at most 128 bytes"),
+            ExpectedWords::Bound => write!(f, "exact or linear K"),
+            ExpectedWords::CallName => write!(f, "frame, admit, dismiss or inquire"),
+            ExpectedWords::Form(form) => write!(f, "{form}"),
+            ExpectedWords::Number(field) => {
+                write!(f, "a number from 0 to 4294967295 for {field}")
+            }
         }
     }
 }

@@ -6,7 +6,7 @@ use std::fmt;
 
 /// A form of a line (docs/PROGRAMS.md, `bench`): its first word, and the numbers that follow it.
 #[derive(Clone, Copy, PartialEq, Eq, Debug)]
-pub enum Form {
+pub enum LineForm {
     /// `exact` names exact steps as the bound.
     Exact,
     /// `linear K` names the linear tail of accuracy K.
@@ -33,18 +33,18 @@ pub enum Field {
     Jitter,
 }
 
-impl Form {
+impl LineForm {
     // The first word of a line of the form.
     pub(crate) fn name(self) -> &'static [u8]
         ensures { result.now ≡ form_name self }
     {
         match self {
-            Form::Exact => b"exact",
-            Form::Linear => b"linear",
-            Form::Frame => b"frame",
-            Form::Admit => b"admit",
-            Form::Dismiss => b"dismiss",
-            Form::Inquire => b"inquire",
+            LineForm::Exact => b"exact",
+            LineForm::Linear => b"linear",
+            LineForm::Frame => b"frame",
+            LineForm::Admit => b"admit",
+            LineForm::Dismiss => b"dismiss",
+            LineForm::Inquire => b"inquire",
         }
     }
 
@@ -54,37 +54,42 @@ impl Form {
         ensures few { length result.now ≤ 5 }
     {
         match self {
-            Form::Exact => &[],
-            Form::Linear => &[Field::Accuracy],
-            Form::Frame => &[Field::Frame],
-            Form::Admit => &[
+            LineForm::Exact => &[],
+            LineForm::Linear => &[Field::Accuracy],
+            LineForm::Frame => &[Field::Frame],
+            LineForm::Admit => &[
                 Field::Rank,
                 Field::Work,
                 Field::Deadline,
                 Field::Period,
                 Field::Jitter,
             ],
-            Form::Dismiss | Form::Inquire => &[Field::Rank],
+            LineForm::Dismiss | LineForm::Inquire => &[Field::Rank],
         }
     }
 
     // The forms that a line may have: until a bound has been named those that name one, and then the
     // calls.
-    fn once(named: bool) -> &'static [Form]
+    fn once(named: bool) -> &'static [LineForm]
         ensures { result.now ≡ forms_once named }
     {
         if named {
-            &[Form::Frame, Form::Admit, Form::Dismiss, Form::Inquire]
+            &[
+                LineForm::Frame,
+                LineForm::Admit,
+                LineForm::Dismiss,
+                LineForm::Inquire,
+            ]
         } else {
-            &[Form::Exact, Form::Linear]
+            &[LineForm::Exact, LineForm::Linear]
         }
     }
 
     // The form that a line may have and that its first word names.
-    pub(crate) fn of(word: &[u8], named: bool) -> Option<Form>
+    pub(crate) fn of(word: &[u8], named: bool) -> Option<LineForm>
         ensures { result ≡ form_for named word.now }
     {
-        Form::once(named)
+        LineForm::once(named)
             .iter()
             .copied()
             .find(|form| form.name() == word)
@@ -92,17 +97,17 @@ impl Form {
 }
 
 // A form as docs/PROGRAMS.md writes it: "admit RANK C D T J".
-impl fmt::Display for Form {
+impl fmt::Display for LineForm {
     ghost output = { λ x. Some (form_text x) };
 
     fn fmt<W: fmt::Write>(&self, f: &mut fmt::Formatter<W>) -> fmt::Result {
         let text = match self {
-            Form::Exact => "exact",
-            Form::Linear => "linear K",
-            Form::Frame => "frame H",
-            Form::Admit => "admit RANK C D T J",
-            Form::Dismiss => "dismiss RANK",
-            Form::Inquire => "inquire RANK",
+            LineForm::Exact => "exact",
+            LineForm::Linear => "linear K",
+            LineForm::Frame => "frame H",
+            LineForm::Admit => "admit RANK C D T J",
+            LineForm::Dismiss => "dismiss RANK",
+            LineForm::Inquire => "inquire RANK",
         };
         write!(f, "{text}")
     }

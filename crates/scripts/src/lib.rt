@@ -12,9 +12,9 @@ mod session;
 mod shown;
 mod words;
 
-pub use expecting::Expected;
-pub use forms::{Field, Form};
-pub use lines::{Line, parse};
+pub use expecting::ExpectedWords;
+pub use forms::{Field, LineForm};
+pub use lines::{ScriptLine, parse};
 pub use running::{name_failure, run};
 pub use shown::{CallLine, NoCallLine, ReplyLine};
 pub use streams::Failure;

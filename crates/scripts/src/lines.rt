@@ -3,11 +3,11 @@ ghost use Rattle.std.specs.Prelude.{◌≡◌, ℕ, ◌^◌, ◌<◌, Bool, true
 ghost use Rattle.admission.specs.declared.calls.Call.{Call};
 ghost use Rattle.scripts.specs.Lines.{line_by_form, line_by_words, line_of};
 ghost use Rattle.scripts.specs.Texts.{call_text, exact_text, linear_text, FitsLine};
-ghost use Rattle.scripts.specs.declared.lines.Line.{Line};
+ghost use Rattle.scripts.specs.declared.lines.ScriptLine.{ScriptLine};
 ghost use Rattle.scripts.specs.Words.{words_of};
 
-use crate::expecting::Expected;
-use crate::forms::Form;
+use crate::expecting::ExpectedWords;
+use crate::forms::LineForm;
 use crate::words::Words;
 use admission::Call;
 use rows::{FrameNumbers, Numbers};
@@ -17,7 +17,7 @@ const LONGEST_LINE: usize = 128;
 
 /// What a line of a script says (docs/PROGRAMS.md, `bench`).
 #[derive(Clone, Copy, PartialEq, Eq, Debug)]
-pub enum Line {
+pub enum ScriptLine {
     /// Nothing: it is a comment, or has no word.
     Passed,
     /// That the bench counts in exact steps.
@@ -27,51 +27,53 @@ pub enum Line {
     /// A call.
     Call(Call),
     /// No call: something else was expected.
-    NoCall(Expected),
+    NoCall(ExpectedWords),
 }
 
 // Reads a line of a form by the words after its first.
-fn read(form: Form, words: Words) -> Result<Line, Expected>
+fn read(form: LineForm, words: Words) -> Result<ScriptLine, ExpectedWords>
     requires { length (words_of words.0.now) < 2 ^ 64 }
     ensures { MatchResult result (λ line. line ≡ line_by_form form (words_of words.entry.0.now))
-        (λ e. Line.NoCall e ≡ line_by_form form (words_of words.entry.0.now)) }
+        (λ e. ScriptLine.NoCall e ≡ line_by_form form (words_of words.entry.0.now)) }
 {
     let fields = form.fields();
     if words.count() != fields.len() {
-        return Err(Expected::Form(form));
+        return Err(ExpectedWords::Form(form));
     }
-    let [first, work, deadline, period, jitter] = words.numbers(fields).map_err(Expected::Number)?;
+    let [first, work, deadline, period, jitter] = words
+        .numbers(fields)
+        .map_err(ExpectedWords::Number)?;
     Ok(match form {
-        Form::Exact => Line::Exact,
-        Form::Linear => Line::Linear(first),
-        Form::Frame => Line::Call(Call::Frame(FrameNumbers { ticks: first })),
-        Form::Admit => {
+        LineForm::Exact => ScriptLine::Exact,
+        LineForm::Linear => ScriptLine::Linear(first),
+        LineForm::Frame => ScriptLine::Call(Call::Frame(FrameNumbers { ticks: first })),
+        LineForm::Admit => {
             let numbers = Numbers {
                 work,
                 deadline,
                 period,
                 jitter,
             };
-            Line::Call(Call::Admit(first as usize, numbers))
+            ScriptLine::Call(Call::Admit(first as usize, numbers))
         }
-        Form::Dismiss => Line::Call(Call::Dismiss(first as usize)),
-        Form::Inquire => Line::Call(Call::Inquire(first as usize)),
+        LineForm::Dismiss => ScriptLine::Call(Call::Dismiss(first as usize)),
+        LineForm::Inquire => ScriptLine::Call(Call::Inquire(first as usize)),
     })
 }
 
 // Reads a line by its words.
-fn read_words(mut words: Words, named: bool) -> Result<Line, Expected>
+fn read_words(mut words: Words, named: bool) -> Result<ScriptLine, ExpectedWords>
     requires { length (words_of words.0.now) < 2 ^ 64 }
     ensures { MatchResult result (λ line. line ≡ line_by_words named (words_of words.entry.0.now))
-        (λ e. Line.NoCall e ≡ line_by_words named (words_of words.entry.0.now)) }
+        (λ e. ScriptLine.NoCall e ≡ line_by_words named (words_of words.entry.0.now)) }
 {
     let Some(word) = words.next() else {
-        return Ok(Line::Passed);
+        return Ok(ScriptLine::Passed);
     };
-    match Form::of(word, named) {
+    match LineForm::of(word, named) {
         Some(form) => read(form, words),
-        None if named => Err(Expected::CallName),
-        None => Err(Expected::Bound),
+        None if named => Err(ExpectedWords::CallName),
+        None => Err(ExpectedWords::Bound),
     }
 }
 
@@ -81,20 +83,20 @@ fn read_words(mut words: Words, named: bool) -> Result<Line, Expected>
 /// Of a line of more than 128 bytes only the first 129 matter. Every call whose rank is below 2^32 is
 /// what its own text says.
 #[tactic(auto, using(crate::proofs::WordList::length_words_of, crate::proofs::Clipping::line_of_clipped, crate::proofs::Printed::call_reads, crate::proofs::Printed::linear_reads))]
-pub fn parse(line: &[u8], named: bool) -> Line
+pub fn parse(line: &[u8], named: bool) -> ScriptLine
     ensures answered { result ≡ line_of named line.now }
     ensures clipped { (named : Bool) (bytes : List ℕ)
         → line_of named (take 129 bytes) ≡ line_of named bytes }
     ensures reads_calls { (call : Call)
-        → FitsLine call → line_of true (call_text call) ≡ Line.Call call }
-    ensures reads_exact { line_of false exact_text ≡ Line.Exact }
-    ensures reads_linear { (k : ℕ) → k < 2 ^ 32 → line_of false (linear_text k) ≡ Line.Linear k }
+        → FitsLine call → line_of true (call_text call) ≡ ScriptLine.Call call }
+    ensures reads_exact { line_of false exact_text ≡ ScriptLine.Exact }
+    ensures reads_linear { (k : ℕ) → k < 2 ^ 32 → line_of false (linear_text k) ≡ ScriptLine.Linear k }
 {
     if line.first() == Some(&b'#') {
-        Line::Passed
+        ScriptLine::Passed
     } else if line.len() > LONGEST_LINE {
-        Line::NoCall(Expected::ShortLine)
+        ScriptLine::NoCall(ExpectedWords::ShortLine)
     } else {
-        read_words(Words(line), named).unwrap_or_else(Line::NoCall)
+        read_words(Words(line), named).unwrap_or_else(ScriptLine::NoCall)
     }
 }

@@ -3,8 +3,8 @@ ghost use Rattle.std.specs.Prelude.{◌≡◌};
 ghost use Rattle.bounds.specs.Values.{meaning_of};
 ghost use Rattle.scripts.specs.Sessions.{naming, calling, heard, is_named, named, reaction_of, state_of};
 
-use crate::expecting::Expected;
-use crate::lines::Line;
+use crate::expecting::ExpectedWords;
+use crate::lines::ScriptLine;
 use admission::{Bench, Reply};
 use bounds::{LinearTail, Supplied};
 
@@ -20,7 +20,7 @@ pub(crate) enum Session {
 pub(crate) enum Remark {
     Silence,
     Answer(Reply),
-    NoCall(Expected),
+    NoCall(ExpectedWords),
 }
 
 impl Session {
@@ -32,7 +32,7 @@ impl Session {
     }
 
     // Does what a line says.
-    pub(crate) fn hear(&mut self, line: Line) -> Remark
+    pub(crate) fn hear(&mut self, line: ScriptLine) -> Remark
         ensures { heard (state_of self.old) line ≡ (state_of self.new, reaction_of result) }
     {
         match self {
@@ -47,23 +47,23 @@ impl Session {
 }
 
 // Names the bound, if the line does: the session that follows, and what there is to write.
-fn name(line: Line) -> (Session, Remark)
+fn name(line: ScriptLine) -> (Session, Remark)
     ensures { naming line ≡ (state_of result.0, reaction_of result.1) }
 {
     match line {
-        Line::Exact => (
+        ScriptLine::Exact => (
             Session::Named(Bench::new(Supplied::ExactSteps)),
             Remark::Silence,
         ),
-        Line::Linear(accuracy) => name_tail(accuracy),
-        Line::NoCall(expected) => (Session::Unnamed, Remark::NoCall(expected)),
-        Line::Passed | Line::Call(_) => (Session::Unnamed, Remark::Silence),
+        ScriptLine::Linear(accuracy) => name_tail(accuracy),
+        ScriptLine::NoCall(expected) => (Session::Unnamed, Remark::NoCall(expected)),
+        ScriptLine::Passed | ScriptLine::Call(_) => (Session::Unnamed, Remark::Silence),
     }
 }
 
 // Names the linear tail of an accuracy.
 fn name_tail(accuracy: u32) -> (Session, Remark)
-    ensures { naming (Line.Linear accuracy) ≡ (state_of result.0, reaction_of result.1) }
+    ensures { naming (ScriptLine.Linear accuracy) ≡ (state_of result.0, reaction_of result.1) }
 {
     match LinearTail::new(accuracy) {
         Ok(tail) => (
@@ -75,13 +75,13 @@ fn name_tail(accuracy: u32) -> (Session, Remark)
 }
 
 // Makes a call, if the line is one.
-fn call(bench: &mut Bench<Supplied>, line: Line) -> Remark
+fn call(bench: &mut Bench<Supplied>, line: ScriptLine) -> Remark
     ensures { calling (meaning_of bench.old.bound) bench.old.book line
         ≡ (named (meaning_of bench.new.bound) bench.new.book, reaction_of result) }
 {
     match line {
-        Line::Call(call) => Remark::Answer(bench.call(call)),
-        Line::NoCall(expected) => Remark::NoCall(expected),
-        Line::Passed | Line::Exact | Line::Linear(_) => Remark::Silence,
+        ScriptLine::Call(call) => Remark::Answer(bench.call(call)),
+        ScriptLine::NoCall(expected) => Remark::NoCall(expected),
+        ScriptLine::Passed | ScriptLine::Exact | ScriptLine::Linear(_) => Remark::Silence,
     }
 }

@@ -3,7 +3,7 @@ ghost use Rattle.std.specs.Prelude.{Some};
 ghost use Rattle.admission.specs.Replies.{answer_of};
 ghost use Rattle.scripts.specs.Texts.{answer_text, call_text, no_call_text};
 
-use crate::expecting::Expected;
+use crate::expecting::ExpectedWords;
 use admission::{Call, Reply, tells_rank};
 use rows::Verdict;
 use std::fmt;
@@ -21,7 +21,7 @@ pub struct ReplyLine(pub Reply);
 #[derive(Clone, Copy, PartialEq, Eq, Debug)]
 pub struct NoCallLine {
     pub line: u64,
-    pub expected: Expected,
+    pub expected: ExpectedWords,
 }
 
 impl fmt::Display for CallLine {
