@@ -4,6 +4,7 @@ use Rattle.std.proofs.lemmas.Nat.{from_be_bytes-to_be_bytes_4}
 use Rattle.std.proofs.lemmas.Bool.{and_parts, cond-false, leb-true, ne_eqb, not-false, or_parts}
 use Rattle.rows.specs.declared.tasks.Row.{Row}
 use Rattle.rows.specs.Judging.{plain}
+use Rattle.rows.specs.Frames.{frame_of}
 use Rattle.rows.specs.Times.{horizon}
 use Rattle.rows.proofs.SameRow.{same_row}
 use Rattle.rows.specs.declared.verdicts.Finding.{Finding}
@@ -15,14 +16,14 @@ use Rattle.leaves.specs.Bytes.{four, number_at}
 use Rattle.leaves.specs.Headings.{heading_plain, bound_numbers}
 use Rattle.leaves.specs.Judging.{is_in_range, IsFilable}
 use Rattle.leaves.specs.Entries.{heading_body, row_body, finding_body, heading_size, row_size, finding_size, end_size}
-use Rattle.leaves.proofs.SameHeading.{same_heading}
+use Rattle.leaves.proofs.SameHeading.{frame_near, same_heading}
 use Rattle.leaves.specs.Fields.{heading_fields, row_fields, finding_fields}
 
 -- the fields of a body are what it was made of
 pub heading_again : (h : Heading) (xs : List ℕ) → heading_fields (heading_body (heading_plain h) ++ xs) ≡ heading_plain h
 heading_again h xs =
-    let frame = from_be_bytes-to_be_bytes_4 h.frame (omega (arith, h.near)) in
-    λ i. record { frame = frame i; bound = (bound_numbers h.bound).0; accuracy = (bound_numbers h.bound).1 }
+    let frame = from_be_bytes-to_be_bytes_4 h.frame.ticks (omega (arith, frame_near h)) in
+    λ i. record { frame = frame_of (frame i); bound = (bound_numbers h.bound).0; accuracy = (bound_numbers h.bound).1 }
 
 pub row_again : (r : Row) (xs : List ℕ) → row_fields (row_body (plain r) ++ xs) ≡ plain r
 row_again r xs =

@@ -1,29 +1,44 @@
 -- What can be filed passes its checks, and what passes can be filed.
-use Rattle.std.proofs.Common.{◌≡◌, ℕ, ◌+◌, ◌%◌, true, not, eqb, [], ◌∷◌, refl, sym, ap, ◌∙◌, arith}
+use Rattle.std.proofs.Common.{◌≡◌, ℕ, ◌+◌, ◌%◌, true, not, eqb, List, [], ◌∷◌, Some, None, Option, refl, sym, ap, ◌∙◌, arith}
+use Rattle.std.specs.Option.{option_map}
 use Rattle.std.proofs.lemmas.Bool.{and_from, le-leb, le-ltb, ne_eqb, not-false, not_from_true}
-use Rattle.rows.specs.declared.refusals.Refusal.TheVariants.{BadFrame, BadAccuracy, OffFrame}
+use Rattle.rows.specs.declared.frames.FrameNumbers.{FrameNumbers}
+use Rattle.rows.specs.declared.judging.Flaw.TheVariants.{Idle, Cramped, Late, Long, Off}
+use Rattle.rows.specs.declared.refusals.Refusal.TheVariants.{BadFrame, BadAccuracy, IdleRow, NoWindow, LateDeadline, LongPeriod, OffFrame}
 use Rattle.rows.specs.declared.tasks.Numbers.{Numbers}
 use Rattle.rows.specs.declared.tasks.Row.{Row}
-use Rattle.rows.specs.Answers.{gives, check, checked, first_refusal}
+use Rattle.rows.specs.Answers.{Check, checked, first_refusal, gives, Passes, refuses_at}
 use Rattle.rows.specs.Counting.{is_on_frame}
-use Rattle.rows.specs.Judging.{plain, row_flaws, frame_flaws, flaw_checks, is_idle, has_no_window, has_late_deadline, has_long_period, is_off_frame}
+use Rattle.rows.specs.Frames.{IsFrame, frame_checks}
+use Rattle.rows.specs.Judging.{plain, row_flaws, frame_flaws, flaw_check, flaw_checks, has_flaw}
 use Rattle.rows.specs.Times.{horizon, is_frame}
 use Rattle.rows.proofs.Checks.{first_passes, given_is, passed_first, passes_on}
 use Rattle.bounds.specs.declared.supplied.Supplied.{Supplied}
 use Rattle.bounds.specs.declared.supplied.Supplied.TheVariants.{ExactSteps as exact, LinearTail as tail}
 use Rattle.bounds.specs.Meaning.{finest, is_accuracy}
 use Rattle.leaves.specs.declared.entries.Heading.{Heading}
-use Rattle.leaves.specs.Headings.{heading_plain, heading_checks, bound_numbers}
+use Rattle.leaves.specs.Headings.{told_at, bound_checks, heading_plain, heading_checks, bound_numbers}
 
--- the frame of a heading is one
-pub framed : (h : Heading) → is_frame h.frame ≡ true
-framed h = and_from _ _ (le-leb 1 h.frame h.low) (le-leb h.frame horizon h.near)
+-- where no check refuses, none does so that tells another position
+pub all_pass : (at : ℕ) (cs : List Check) → Passes cs → Passes (told_at at cs)
+all_pass at [] passes = refl
+all_pass at (c ∷ cs) passes = by c.at passes (all_pass at cs)
+  where
+    by : (o : Option ℕ) → gives tt ≡ refuses_at c.refusal o (first_refusal cs) → (Passes cs → Passes (told_at at cs))
+        → gives tt ≡ refuses_at c.refusal (option_map (λ _. at) o) (first_refusal (told_at at cs))
+    by (Some p) here later = cc
+    by None here later = later here
+
+-- the numbers of a frame pass their checks
+pub framed : (h : FrameNumbers) → IsFrame h → first_refusal (frame_checks h) ≡ gives tt
+framed h is = passes_on (not (is_frame h.ticks)) BadFrame 0 _ (not_from_true (is_frame h.ticks) is.ticks)
 
 -- the numbers of a heading pass their checks
 pub heading_passes : (h : Heading) (at : ℕ) → first_refusal (heading_checks (heading_plain h) at) ≡ gives tt
-heading_passes h at = passes_on (not (is_frame h.frame)) BadFrame at _ (not_from_true (is_frame h.frame) (framed h)) ∙ named h.bound
+heading_passes h at =
+    sym (passed_first (told_at at (frame_checks h.frame)) (bound_checks (heading_plain h) at) tt tt (all_pass at (frame_checks h.frame) (sym (framed h.frame h.framed))) tt) ∙ named h.bound
   where
-    named : (b : Supplied) → first_refusal (heading_checks (record { frame = 1; bound = (bound_numbers b).0; accuracy = (bound_numbers b).1 }) at) ≡ gives tt
+    named : (b : Supplied) → first_refusal (bound_checks (record { frame = h.frame; bound = (bound_numbers b).0; accuracy = (bound_numbers b).1 }) at) ≡ gives tt
     named exact = refl
     named (tail t) = passes_on (not (is_accuracy t.accuracy)) BadAccuracy at _ (not_from_true _ (and_from _ _ (le-leb 1 t.accuracy t.low) (le-leb t.accuracy finest t.high)))
 
@@ -37,17 +52,19 @@ numbers_pass r at =
     rw (busy, roomy, timely, near)
 
 -- on the frame too
-pub row_passes : (h : ℕ) (r : Row) (at : ℕ) → is_on_frame h r ≡ true → first_refusal (flaw_checks (frame_flaws h) (plain r) at) ≡ gives tt
+pub row_passes : (h : FrameNumbers) (r : Row) (at : ℕ) → is_on_frame h.ticks r ≡ true → first_refusal (flaw_checks (frame_flaws h) (plain r) at) ≡ gives tt
 row_passes h r at on =
-    let off = not_from_true (eqb (h % r.period) 0) on in
-    sym (passed_first (flaw_checks row_flaws (plain r) at) (check (is_off_frame h (plain r)) OffFrame at ∷ []) tt tt (sym (numbers_pass r at)) tt) ∙ passes_on (is_off_frame h (plain r)) OffFrame at (gives tt) off
+    let off = not_from_true (eqb (h.ticks % r.period) 0) on in
+    sym (passed_first (flaw_checks row_flaws (plain r) at) (flaw_check (plain r) at (Off h) ∷ []) tt tt (sym (numbers_pass r at)) tt)
+    ∙ passes_on (has_flaw (Off h) (plain r)) OffFrame at (gives tt) off
 
 -- a row that was judged on a frame stands on it
-pub judged_on : (h at : ℕ) (r : Row) (n : Numbers) → gives (plain r) ≡ checked (flaw_checks (frame_flaws h) n at) n → is_on_frame h r ≡ true
+pub judged_on : (h : FrameNumbers) (at : ℕ) (r : Row) (n : Numbers) → gives (plain r) ≡ checked (flaw_checks (frame_flaws h) n at) n → is_on_frame h.ticks r ≡ true
 judged_on h at r n given =
     let same = given_is (flaw_checks (frame_flaws h) n at) (plain r) n given in
-    let busy = first_passes (is_idle n) 4 at (plain r) _ given in
-    let roomy = first_passes (has_no_window n) 5 at (plain r) _ busy.1 in
-    let timely = first_passes (has_late_deadline n) 6 at (plain r) _ roomy.1 in
-    let near = first_passes (has_long_period n) 7 at (plain r) _ timely.1 in
-    ap (λ m. eqb (h % m.period) 0) same ∙ not-false _ (first_passes (is_off_frame h n) 8 at (plain r) _ near.1).0
+    let busy = first_passes (has_flaw Idle n) IdleRow at (plain r) _ given in
+    let roomy = first_passes (has_flaw Cramped n) NoWindow at (plain r) _ busy.1 in
+    let timely = first_passes (has_flaw Late n) LateDeadline at (plain r) _ roomy.1 in
+    let near = first_passes (has_flaw Long n) LongPeriod at (plain r) _ timely.1 in
+    let on = first_passes (has_flaw (Off h) n) OffFrame at (plain r) _ near.1 in
+    ap (λ m. eqb (h.ticks % m.period) 0) same ∙ not-false _ on.0

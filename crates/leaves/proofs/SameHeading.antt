@@ -1,13 +1,24 @@
 -- A heading is known by its numbers.
-use Rattle.std.proofs.Common.{◌≡◌, ◌≤◌, refl, ap, arith}
+use Rattle.std.proofs.Common.{◌≡◌, ◌≤◌, leb, refl, ap, arith}
+use mathlib.Core.Bool.{Bool-set}
 use mathlib.Core.HLevel.{is_prop→PathP}
-use Rattle.std.proofs.Math.Bridge.{le_prop}
+use Rattle.std.proofs.lemmas.Bool.{and_parts, leb-true}
+use Rattle.rows.specs.declared.frames.FrameNumbers.{FrameNumbers}
+use Rattle.rows.specs.Frames.{IsFrame}
 use Rattle.rows.specs.Times.{horizon}
 use Rattle.bounds.specs.declared.supplied.Supplied.{Supplied}
 use Rattle.bounds.specs.declared.supplied.Supplied.TheVariants.{ExactSteps as exact, LinearTail as tail}
 use Rattle.bounds.proofs.SameTail.{same_tail}
 use Rattle.leaves.specs.declared.entries.Heading.{Heading}
 use Rattle.leaves.specs.Headings.{heading_plain, bound_numbers}
+
+-- the frame of a heading ends at the horizon
+pub frame_near : (h : Heading) → h.frame.ticks ≤ horizon
+frame_near h = leb-true h.frame.ticks horizon (and_parts (leb 1 h.frame.ticks) (leb h.frame.ticks horizon) h.framed.ticks).1
+
+-- there is one proof that numbers are a frame
+frame_once : (n : FrameNumbers) (a b : IsFrame n) → a ≡ b
+frame_once n a b = λ i. record { ticks = Bool-set _ _ a.ticks b.ticks i }
 
 -- a bound is known by what a heading tells of it
 same_bound : (a b : Supplied) → (bound_numbers a).0 ≡ (bound_numbers b).0 → (bound_numbers a).1 ≡ (bound_numbers b).1 → a ≡ b
@@ -23,6 +34,5 @@ same_heading g h same =
     λ i. record {
       frame = (same i).frame;
       bound = bound i;
-      low = is_prop→PathP (λ j. 1 ≤ (same j).frame) (λ j. le_prop) g.low h.low i;
-      near = is_prop→PathP (λ j. (same j).frame ≤ horizon) (λ j. le_prop) g.near h.near i;
+      framed = is_prop→PathP (λ j. IsFrame (same j).frame) (λ j. frame_once (same j).frame) g.framed h.framed i;
     }

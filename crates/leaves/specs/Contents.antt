@@ -34,6 +34,6 @@ encoding c = bytes_of (entries c)
 -- contents that a leaf can hold: few enough rows, all on the frame, and as many findings, all of which can be filed
 pub record IsLawful (c : Contents) : Type 0 where
   pub few : length c.rows ≤ most_rows
-  pub on : AllPass (is_on_frame c.heading.frame) c.rows
+  pub on : AllPass (is_on_frame c.heading.frame.ticks) c.rows
   pub good : All IsFilable c.findings
   pub even : length c.findings ≡ length c.rows

@@ -26,9 +26,9 @@ letter_A = 65
 abbrev pub letter_Z : ℕ
 letter_Z = 90
 
--- the body of a heading: the frame, the bound and the accuracy
+-- the body of a heading: the length of the frame, the bound and the accuracy
 abbrev pub heading_body : HeadingNumbers → List ℕ
-heading_body n = four n.frame ++ n.bound ∷ n.accuracy ∷ []
+heading_body n = four n.frame.ticks ++ n.bound ∷ n.accuracy ∷ []
 
 -- the body of a row: work, deadline, period and jitter
 abbrev pub row_body : Numbers → List ℕ

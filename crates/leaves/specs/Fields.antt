@@ -1,5 +1,6 @@
 -- What stands in the body of an entry.
 use Rattle.std.specs.Prelude.{ℕ, List, slice_index, ◌==◌, if◌then◌else◌}
+use Rattle.rows.specs.Frames.{frame_of}
 use Rattle.rows.specs.declared.tasks.Numbers.{Numbers}
 use Rattle.rows.specs.declared.verdicts.Finding.{Finding}
 use Rattle.rows.specs.declared.verdicts.Verdict.TheVariants.{Meets, Misses}
@@ -8,7 +9,11 @@ use Rattle.leaves.specs.Bytes.{number_at}
 
 -- the numbers in the body of F
 abbrev pub heading_fields : List ℕ → HeadingNumbers
-heading_fields body = record { frame = number_at 0 body; bound = slice_index body 4; accuracy = slice_index body 5 }
+heading_fields body = record {
+  frame = frame_of (number_at 0 body);
+  bound = slice_index body 4;
+  accuracy = slice_index body 5;
+}
 
 -- the numbers in the body of R
 abbrev pub row_fields : List ℕ → Numbers

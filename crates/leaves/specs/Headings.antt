@@ -1,8 +1,9 @@
 -- Headings, and the plain numbers that are one.
-use Rattle.std.specs.Prelude.{ℕ, Bool, not, List, [], ◌∷◌, ◌==◌, nat_lt, if◌then◌else◌}
-use Rattle.rows.specs.declared.refusals.Refusal.TheVariants.{BadFrame, BadAccuracy, UnknownBound}
+use Rattle.std.specs.Prelude.{ℕ, Bool, not, List, [], ◌∷◌, ◌++◌, map, ◌==◌, nat_lt, if◌then◌else◌}
+use Rattle.std.specs.Option.{option_map}
+use Rattle.rows.specs.declared.refusals.Refusal.TheVariants.{BadAccuracy, UnknownBound}
 use Rattle.rows.specs.Answers.{Check, check}
-use Rattle.rows.specs.Times.{is_frame}
+use Rattle.rows.specs.Frames.{frame_checks}
 use Rattle.bounds.specs.declared.supplied.Supplied.{Supplied}
 use Rattle.bounds.specs.declared.supplied.Supplied.TheVariants.{ExactSteps as exact, LinearTail as tail}
 use Rattle.bounds.specs.Meaning.{is_accuracy}
@@ -31,6 +32,10 @@ has_accuracy n = if n.bound == 0 then n.accuracy == 0 else is_accuracy n.accurac
 abbrev pub bound_checks : HeadingNumbers → ℕ → List Check
 bound_checks n at = check (nat_lt last_bound n.bound) UnknownBound at ∷ check (not (has_accuracy n)) BadAccuracy at ∷ []
 
--- what is checked of the numbers of a heading: bad frame, and then the bound
+-- the same checks, each telling another position
+abbrev pub told_at : ℕ → List Check → List Check
+told_at at cs = map (λ c. record { refusal = c.refusal; at = option_map (λ _. at) c.at }) cs
+
+-- what is checked of the numbers of a heading: the frame, and then the bound
 abbrev pub heading_checks : HeadingNumbers → ℕ → List Check
-heading_checks n at = check (not (is_frame n.frame)) BadFrame at ∷ bound_checks n at
+heading_checks n at = told_at at (frame_checks n.frame) ++ bound_checks n at

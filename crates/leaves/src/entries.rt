@@ -1,9 +1,8 @@
 // What the entries of a leaf hold. A leaf is what the archive keeps about one survey.
-ghost use Rattle.std.specs.Prelude.{◌≤◌};
-ghost use Rattle.rows.specs.Times.{horizon};
+ghost use Rattle.rows.specs.Frames.{IsFrame};
 
 use bounds::Supplied;
-use rows::{Finding, Row};
+use rows::{Finding, Frame, FrameNumbers, Row};
 
 /// How many bytes the body of a heading has: an entry is one byte more, its letter.
 pub const HEADING_SIZE: usize = 6;
@@ -21,7 +20,7 @@ pub const END_SIZE: usize = 4;
 /// (0 exact steps, 1 linear tail), and the accuracy of the linear tail (0 for exact steps).
 #[derive(Clone, Copy, PartialEq, Eq, Debug)]
 pub struct HeadingNumbers {
-    pub frame: u32,
+    pub frame: FrameNumbers,
     pub bound: u8,
     pub accuracy: u8,
 }
@@ -29,10 +28,9 @@ pub struct HeadingNumbers {
 /// The heading of a leaf, judged: its frame, and the bound by which its rows were counted.
 #[derive(Clone, Copy, PartialEq, Eq, Debug)]
 pub struct Heading {
-    pub frame: u32,
+    pub frame: Frame,
     pub bound: Supplied,
-    pub ghost low: { 1 ≤ frame },
-    pub ghost near: { frame ≤ horizon },
+    pub ghost framed: { IsFrame frame },
 }
 
 /// An entry of a leaf (docs/FORMAT.md, Entries): the heading, a row, the finding about a row, or the

@@ -1,12 +1,13 @@
 // Which headings and findings can be filed.
-ghost use Rattle.std.specs.Prelude.{◌≡◌};
+ghost use Rattle.std.specs.Prelude.{◌≡◌, OnOk};
 ghost use Rattle.rows.specs.Answers.{answer, checked};
-ghost use Rattle.leaves.specs.Headings.{bound_checks, heading_checks, heading_plain, bound_numbers};
+ghost use Rattle.rows.specs.Frames.{IsFrame, frame_checks};
+ghost use Rattle.leaves.specs.Headings.{told_at, bound_checks, heading_checks, heading_plain, bound_numbers};
 ghost use Rattle.leaves.specs.Judging.{finding_checks};
 
 use crate::entries::{Heading, HeadingNumbers};
 use bounds::{Bound, LinearTail, Supplied};
-use rows::{Fault, Finding, HORIZON, Refusal, Verdict, is_frame};
+use rows::{Fault, Finding, Frame, HORIZON, Refusal, Verdict};
 
 impl HeadingNumbers {
     /// The heading of these numbers (docs/FORMAT.md has their ranges). Refused with the first of
@@ -15,14 +16,21 @@ impl HeadingNumbers {
     pub fn judge(&self, at: u32) -> Result<Heading, Fault>
         ensures { answer heading_plain result ≡ checked (heading_checks self.now at) self.now }
     {
-        if !is_frame(self.frame) {
-            return Err(Refusal::BadFrame.at(at));
-        }
+        let frame = self.judged_frame(at)?;
         let bound = self.named_bound(at)?;
-        Ok(Heading {
-            frame: self.frame,
-            bound,
-        })
+        Ok(Heading { frame, bound })
+    }
+
+    // The frame of the first numbers.
+    fn judged_frame(&self, at: u32) -> Result<Frame, Fault>
+        ensures answered { answer (λ h. h) result
+            ≡ checked (told_at at (frame_checks self.now.frame)) self.now.frame }
+        ensures lawful { OnOk result (IsFrame self.now.frame) }
+    {
+        match self.frame.judge() {
+            Ok(frame) => Ok(frame),
+            Err(fault) => Err(fault.refusal.at(at)),
+        }
     }
 
     // The bound that the second and the third number name together.
@@ -53,7 +61,7 @@ impl Heading {
             Supplied::LinearTail(tail) => (1, tail.accuracy() as u8),
         };
         HeadingNumbers {
-            frame: self.frame,
+            frame: self.frame.numbers(),
             bound,
             accuracy,
         }
