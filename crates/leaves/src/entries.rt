@@ -2,7 +2,7 @@
 ghost use Rattle.rows.specs.Frames.{IsFrame};
 
 use bounds::Supplied;
-use rows::{Finding, Frame, FrameNumbers, Row};
+use rows::{Finding, FrameNumbers, Row};
 
 /// How many bytes the body of a heading has: an entry is one byte more, its letter.
 pub const HEADING_SIZE: usize = 6;
@@ -25,10 +25,11 @@ pub struct HeadingNumbers {
     pub accuracy: u8,
 }
 
-/// The heading of a leaf, judged: its frame, and the bound by which its rows were counted.
+/// The heading of a leaf, judged: the numbers of its frame, which are one, and the bound by which its
+/// rows were counted.
 #[derive(Clone, Copy, PartialEq, Eq, Debug)]
 pub struct Heading {
-    pub frame: Frame,
+    pub frame: FrameNumbers,
     pub bound: Supplied,
     pub ghost framed: { IsFrame frame },
 }

@@ -16,19 +16,22 @@ impl HeadingNumbers {
     pub fn judge(&self, at: u32) -> Result<Heading, Fault>
         ensures { answer heading_plain result ≡ checked (heading_checks self.now at) self.now }
     {
-        let frame = self.judged_frame(at)?;
+        self.check_frame(at)?;
         let bound = self.named_bound(at)?;
-        Ok(Heading { frame, bound })
+        Ok(Heading {
+            frame: self.frame,
+            bound,
+        })
     }
 
-    // The frame of the first numbers.
-    fn judged_frame(&self, at: u32) -> Result<Frame, Fault>
-        ensures answered { answer (λ h. h) result
-            ≡ checked (told_at at (frame_checks self.now.frame)) self.now.frame }
+    // What is checked of the frame.
+    fn check_frame(&self, at: u32) -> Result<(), Fault>
+        ensures answered { answer (λ u. u) result
+            ≡ checked (told_at at (frame_checks self.now.frame)) tt }
         ensures lawful { OnOk result (IsFrame self.now.frame) }
     {
         match self.frame.judge() {
-            Ok(frame) => Ok(frame),
+            Ok(_) => Ok(()),
             Err(fault) => Err(fault.refusal.at(at)),
         }
     }
@@ -51,6 +54,14 @@ impl HeadingNumbers {
 }
 
 impl Heading {
+    /// The frame of the leaf (docs/RULES.md, Frame and parts).
+    #[tactic(auto, using(crate::proofs::Filing::framed))]
+    pub fn frame(&self) -> Frame
+        ensures { result ≡ self.now.frame }
+    {
+        self.frame.judge().unwrap()
+    }
+
     /// The plain numbers of the heading: the frame, the bound by its number (0 exact steps, 1 linear
     /// tail), and the accuracy of the linear tail, 0 for exact steps (docs/FORMAT.md, Entries).
     pub fn numbers(&self) -> HeadingNumbers
@@ -61,7 +72,7 @@ impl Heading {
             Supplied::LinearTail(tail) => (1, tail.accuracy() as u8),
         };
         HeadingNumbers {
-            frame: self.frame.numbers(),
+            frame: self.frame,
             bound,
             accuracy,
         }

@@ -23,13 +23,13 @@ findings_run [] takes good count = goes (closes takes (omega arith) (omega arith
 findings_run (f ∷ fs) takes good count = goes (finds takes (omega arith) (All-head IsFilable f fs good)) (findings_run fs after_findings (All-tail IsFilable f fs good) (omega arith))
 
 -- and so do rows before them
-rows_run : (h : Heading) (n t : ℕ) (rs : List Row) (fs : List Finding) → n + length rs ≡ t → length fs ≡ t → t ≤ most_rows → AllPass (is_on_frame h.frame) rs → All IsFilable fs
+rows_run : (h : Heading) (n t : ℕ) (rs : List Row) (fs : List Finding) → n + length rs ≡ t → length fs ≡ t → t ≤ most_rows → AllPass (is_on_frame h.frame.ticks) rs → All IsFilable fs
     → Run (Rows h n) (map row rs ++ (map finding fs ++ end (1 + t + t) ∷ [])) (Closed h t)
 rows_run h n t [] fs total count few on good =
     let all : n ≡ t = omega arith in
     subst (λ m. Run (Rows h m) (map finding fs ++ end (1 + t + t) ∷ []) (Closed h t)) (sym all) (findings_run fs after_rows good (omega arith))
 rows_run h n t (r ∷ rs) fs total count few on good =
-    goes (stands (omega arith) (All-head (λ s. is_on_frame h.frame s ≡ true) r rs on)) (rows_run h (n + 1) t rs fs (omega arith) count few (All-tail (λ s. is_on_frame h.frame s ≡ true) r rs on) good)
+    goes (stands (omega arith) (All-head (λ s. is_on_frame h.frame.ticks s ≡ true) r rs on)) (rows_run h (n + 1) t rs fs (omega arith) count few (All-tail (λ s. is_on_frame h.frame.ticks s ≡ true) r rs on) good)
 
 -- the entries of lawful contents close a leaf
 pub lawful_run : (c : Contents) → IsLawful c → Run Opening (entries c) (Closed c.heading (length c.rows))
@@ -41,7 +41,7 @@ lawful_run c lawful =
 -- in a leaf with a heading, after n rows and m findings, what closes it is more rows, more findings and the end
 record ClosesBy (h : Heading) (n m : ℕ) (kept : List Row) (filed : List Finding) (es : List Entry) (g : Heading) (t : ℕ) : Type 0 where
   same : es ≡ map row kept ++ (map finding filed ++ end (1 + t + t) ∷ [])
-  on : AllPass (is_on_frame h.frame) kept
+  on : AllPass (is_on_frame h.frame.ticks) kept
   good : All IsFilable filed
   total : n + length kept ≡ t
   count : m + length filed ≡ t
@@ -58,7 +58,7 @@ module _ {h g : Heading} {n m t : ℕ} {es : List Entry} where
   the_end {k = k} even number last =
       let total = last.2 in
       let all : k ≡ 1 + t + t = omega arith in
-      record { same = ap₂ (λ x xs. end x ∷ xs) all last.0; on = All-nil (λ s. is_on_frame h.frame s ≡ true); good = All-nil IsFilable; total = omega arith; count = omega arith; head = last.1 }
+      record { same = ap₂ (λ x xs. end x ∷ xs) all last.0; on = All-nil (λ s. is_on_frame h.frame.ticks s ≡ true); good = All-nil IsFilable; total = omega arith; count = omega arith; head = last.1 }
 
   -- one finding more in front, where no row follows
   one_finding : {filed : List Finding} (f : Finding) → IsFilable f → ClosesBy h n (m + 1) [] filed es g t → ClosesBy h n m [] (f ∷ filed) (finding f ∷ es) g t
@@ -66,9 +66,9 @@ module _ {h g : Heading} {n m t : ℕ} {es : List Entry} where
       record { same = ap (λ xs. finding f ∷ xs) by.same; on = by.on; good = All-cons IsFilable f filed good by.good; total = by.total; count = omega (arith, by.count); head = by.head }
 
   -- one row more in front
-  one_row : {kept : List Row} {filed : List Finding} (r : Row) → is_on_frame h.frame r ≡ true → ClosesBy h (n + 1) m kept filed es g t → ClosesBy h n m (r ∷ kept) filed (row r ∷ es) g t
+  one_row : {kept : List Row} {filed : List Finding} (r : Row) → is_on_frame h.frame.ticks r ≡ true → ClosesBy h (n + 1) m kept filed es g t → ClosesBy h n m (r ∷ kept) filed (row r ∷ es) g t
   one_row {kept} r on by =
-      record { same = ap (λ xs. row r ∷ xs) by.same; on = All-cons (λ s. is_on_frame h.frame s ≡ true) r kept on by.on; good = by.good; total = omega (arith, by.total); count = by.count; head = by.head }
+      record { same = ap (λ xs. row r ∷ xs) by.same; on = All-cons (λ s. is_on_frame h.frame.ticks s ≡ true) r kept on by.on; good = by.good; total = omega (arith, by.total); count = by.count; head = by.head }
 
 findings_close : {h g : Heading} {n m t : ℕ} {es : List Entry} → Run (Findings h n m) es (Closed g t) → (filed : List Finding) × ClosesBy h n m [] filed es g t
 findings_close (goes (finds {f = f} after_findings missing good) run) = let (filed, by) = findings_close run in (f ∷ filed, one_finding f good by)

@@ -18,7 +18,7 @@ use Rattle.reading.proofs.Runs.{run_sound, IsStuck, run_once}
 use Rattle.reading.proofs.Contents.{lawful_run, same_contents}
 
 -- after a refusal no entry can come
-refused_stuck : {bytes : List ℕ} {n place : ℕ} (r : IsRefusedAt bytes n place) → IsStuck r.phase r.left
+refused_stuck : {bytes : List ℕ} {n : Refusal} {place : ℕ} (r : IsRefusedAt bytes n place) → IsStuck r.phase r.left
 refused_stuck r e q more step split =
     let passes = ap (λ xs. first_refusal (next_checks r.phase (length (bytes_of r.before)) xs)) split ∙ step_passes step (run_sound r.run opening_sound) (length (bytes_of r.before)) more in
     let both = sym r.fails ∙ passes in

@@ -1,6 +1,7 @@
 -- Entries that pass their checks lead on.
 use Rattle.std.proofs.Common.{◌≡◌, ℕ, ◌+◌, ◌-◌, ◌^◌, ◌<◌, List, ◌∷◌, ◌++◌, length, take, drop, sym, ap, ◌∙◌, subst}
 use Rattle.std.proofs.lemmas.List.{take_rest}
+use Rattle.rows.specs.declared.refusals.Refusal.TheVariants.{BadFinding}
 use Rattle.rows.specs.declared.tasks.Numbers.{Numbers}
 use Rattle.rows.specs.declared.tasks.Row.{Row}
 use Rattle.rows.specs.Answers.{gives, checked}
@@ -56,7 +57,7 @@ module _ (body : List ℕ) (size : ℕ) where
   pub finding_taken : (h : Heading) (f : Finding) (rows findings at : ℕ) → findings < rows → f.points < 2 ^ 32 → body ≡ finding_body (tells f) ++ drop size body → gives tt ≡ checked {A = Unit {0}} (finding_checks f at) tt
       → (p : Phase) → TakesFindings p h rows findings → TakesEntry (reading p (letter_A ∷ body)) (finding f) (reading (Findings h rows (findings + 1)) left)
   finding_taken h f rows findings at missing fits same given p takes = record {
-    step = finds takes missing (record { good = (first_passes (is_bad_finding f) 17 at tt _ given).0; fits = fits });
+    step = finds takes missing (record { good = (first_passes (is_bad_finding f) BadFinding at tt _ given).0; fits = fits });
     split = ap (λ xs. letter_A ∷ xs) (parted (finding_body (tells f)) same);
   }
 

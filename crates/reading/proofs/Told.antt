@@ -9,7 +9,6 @@ use Rattle.rows.specs.declared.tasks.Row.{Row}
 use Rattle.rows.specs.Answers.{answer, checked, first_refusal}
 use Rattle.rows.specs.Judging.{plain, row_flaws, flaw_checks}
 use Rattle.rows.specs.Lists.{at_rank}
-use Rattle.rows.specs.Refusals.{number}
 use Rattle.rows.proofs.Checks.{given_is, answered_once}
 use Rattle.rows.specs.declared.verdicts.Finding.{Finding}
 use Rattle.rows.specs.Found.{tells}

@@ -1,5 +1,6 @@
 -- What is checked at an entry: each check of a leaf stands here, and only here.
 use Rattle.std.specs.Prelude.{ℕ, ◌+◌, Bool, not, ◌||◌, List, [], ◌∷◌, length, ◌==◌, nat_le, nat_lt, if◌then◌else◌}
+use Rattle.rows.specs.declared.frames.FrameNumbers.{FrameNumbers}
 use Rattle.rows.specs.declared.refusals.Refusal.TheVariants.{FullTable, CutLeaf, StrangeLetter, OutOfTurn, Miscount, LooseBytes}
 use Rattle.rows.specs.Answers.{Check, check}
 use Rattle.rows.specs.Judging.{frame_flaws, flaw_checks}
@@ -37,7 +38,7 @@ abbrev pub heading_entry_checks : ℕ → List ℕ → List Check
 heading_entry_checks at body = cut heading_size at body ∷ heading_checks (heading_fields body) at
 
 -- R on a frame, after so many rows: full table, cut leaf; then its numbers
-abbrev pub row_entry_checks : ℕ → ℕ → ℕ → List ℕ → List Check
+abbrev pub row_entry_checks : FrameNumbers → ℕ → ℕ → List ℕ → List Check
 row_entry_checks h rows at body =
     full_table_check rows at
     ∷ cut row_size at body

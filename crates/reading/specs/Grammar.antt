@@ -22,7 +22,7 @@ pub data Step : Phase → Entry → Phase → Type 0 where
   opens : {h : Heading} → Step Opening (heading h) (Rows h 0)
   -- a row on the frame comes after fewer than a full table
   stands : {h : Heading} {n : ℕ} {r : Row}
-      → n < most_rows → IsTrue (is_on_frame h.frame r) → Step (Rows h n) (row r) (Rows h (n + 1))
+      → n < most_rows → IsTrue (is_on_frame h.frame.ticks r) → Step (Rows h n) (row r) (Rows h (n + 1))
   -- a finding that can be filed comes after fewer findings than rows; the first one ends the rows
   finds : {p : Phase} {h : Heading} {n m : ℕ} {f : Finding}
       → TakesFindings p h n m → m < n → IsFilable f → Step p (finding f) (Findings h n (m + 1))

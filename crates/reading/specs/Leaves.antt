@@ -2,7 +2,6 @@
 use Rattle.std.specs.Prelude.{◌≡◌, ℕ, List, ◌++◌, Ok, Err, Result}
 use Rattle.rows.specs.declared.refusals.Fault.{Fault}
 use Rattle.rows.specs.Answers.{Answer, gives, refuses}
-use Rattle.rows.specs.Refusals.{number}
 use Rattle.leaves.specs.declared.entries.Heading.{Heading}
 use Rattle.leaves.specs.declared.entries.Entry.TheVariants.{Heading as heading}
 use Rattle.leaves.specs.Entries.{entry_bytes}
@@ -35,9 +34,9 @@ abbrev pub ArePartsOf : List ℕ → Leaf → Type 0
 ArePartsOf bytes leaf =
     (end : List ℕ) × (bytes ≡ entry_bytes (heading (heading_of leaf)) ++ (row_bytes leaf ++ (finding_bytes leaf ++ end)))
 
--- what reading answers is the answer: a leaf that holds the contents, or the refusal by its number and place
+-- what reading answers is the answer: a leaf that holds the contents, or the refusal and its place
 abbrev pub Reads : Result Leaf Fault → Answer Contents → Type 0
 Reads (Ok leaf) (gives c) = Holds leaf c
 Reads (Ok leaf) (refuses n at) = ⊥
 Reads (Err e) (gives c) = ⊥
-Reads (Err e) (refuses n at) = (number e.refusal ≡ n) × (e.at ≡ at)
+Reads (Err e) (refuses n at) = (e.refusal ≡ n) × (e.at ≡ at)

@@ -2,6 +2,7 @@ pub mod Phases
 pub mod Grammar
 pub mod Checks
 pub mod Stepping
+pub mod Readers
 pub mod Whole
 pub mod Bodies
 pub mod Held

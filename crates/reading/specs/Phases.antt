@@ -1,5 +1,7 @@
 -- The phases of a reader.
 use Rattle.std.specs.Prelude.{ℕ, ◌≤◌, Bool, true, false, ◌||◌, ◌==◌}
+use Rattle.rows.specs.declared.frames.FrameNumbers.{FrameNumbers}
+use Rattle.rows.specs.Frames.{frame_of}
 use Rattle.rows.specs.Times.{most_rows}
 use Rattle.leaves.specs.Entries.{letter_F, letter_R, letter_A, letter_Z, row_place, finding_place, leaf_length}
 use Rattle.reading.specs.declared.phases.Phase.{Phase}
@@ -20,8 +22,8 @@ findings_in (Findings h n m) = m
 findings_in (Closed h n) = n
 
 -- the frame that the heading told
-abbrev pub frame_in : Phase → ℕ
-frame_in Opening = 0
+abbrev pub frame_in : Phase → FrameNumbers
+frame_in Opening = frame_of 0
 frame_in (Rows h n) = h.frame
 frame_in (Findings h n m) = h.frame
 frame_in (Closed h n) = h.frame

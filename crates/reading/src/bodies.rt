@@ -14,7 +14,7 @@ ghost use Rattle.reading.specs.Bodies.{body_of, AreOfSize};
 ghost use Rattle.reading.specs.Checks.{cut};
 
 use leaves::HeadingNumbers;
-use rows::{Fault, Finding, Numbers, Refusal, Verdict};
+use rows::{Fault, Finding, FrameNumbers, Numbers, Refusal, Verdict};
 
 // Whether the bytes after the kind byte at a place are enough for a body of some size.
 pub(crate) fn check_length(body: &[u8], at: u32, size: usize) -> Result<(), Fault>
@@ -57,7 +57,9 @@ pub(crate) fn heading_fields(body: &[u8]) -> HeadingNumbers
     ensures same { body.now ≡ heading_body result ++ drop heading_size body.now }
 {
     HeadingNumbers {
-        frame: number_at(body, 0),
+        frame: FrameNumbers {
+            ticks: number_at(body, 0),
+        },
         bound: body[4],
         accuracy: body[5],
     }

@@ -62,7 +62,7 @@ pub(crate) fn row_entry(
         return Err(Refusal::FullTable.at(at));
     }
     check_length(body, at, ROW_SIZE)?;
-    let row = row_fields(body).judge_on(heading.frame, at)?;
+    let row = row_fields(body).judge_on(&heading.frame(), at)?;
     let rows = rows + 1;
     Ok(Taken {
         entry: Entry::Row(row),

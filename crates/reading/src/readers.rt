@@ -1,38 +1,30 @@
 // A reader of leaves.
+ghost use Rattle.reading.specs.Phases.{IsSound};
+
 use crate::entries::{Taken, end_entry, finding_entry, heading_entry, row_entry};
 use crate::phases::Phase;
 use leaves::Entry;
 use rows::{Fault, Refusal};
-use std::marker::Model;
 
-/// A reader over lent bytes. Callers see its phase and the bytes that are left.
-#[derive(Drop)]
+/// A reader over lent bytes: its phase, and the bytes that are left. A copy of it looks ahead while
+/// the reader stays where it is.
+#[derive(Clone, Copy, PartialEq, Eq, Debug)]
 pub struct Reader<'a> {
     left: &'a [u8],
     phase: Phase,
-}
-
-impl<'a> Model for Reader<'a> {
-    ghost use Rattle.reading.specs.Phases.{IsSound};
-    ghost use Rattle.reading.specs.Stepping.{Reading, reading};
-
-    ghost Value = { Reading };
-
-    ghost view = { λ r. reading r.phase r.left.now };
-
-    ghost invariant = { λ r. IsSound r.phase };
+    ghost sound: { IsSound phase },
 }
 
 impl<'a> Reader<'a> {
     ghost use Rattle.std.specs.Prelude.{IsTrue, ◌≡◌, IfOk, OnErr, MatchOption, []};
     ghost use Rattle.rows.specs.Answers.{refusal, first_refusal};
-    ghost use Rattle.reading.specs.Checks.{next_checks};
     ghost use Rattle.reading.specs.Phases.{is_closed, place_of, IsSound};
+    ghost use Rattle.reading.specs.Readers.{reading_of, checks_here};
     ghost use Rattle.reading.specs.Stepping.{TakesEntry, Takes, TakesOnce, reading};
 
     /// A reader before the first of the bytes.
     pub fn new(bytes: &'a [u8]) -> Reader<'a>
-        ensures { result ≡ reading Phase.Opening bytes.now }
+        ensures { reading_of result ≡ reading Phase.Opening bytes.now }
     {
         Reader {
             left: bytes,
@@ -43,22 +35,22 @@ impl<'a> Reader<'a> {
     /// Where the next entry begins: the offset of its kind byte in the bytes of the leaf. No more
     /// rows have come than a table may have, and no more findings than rows.
     pub fn place(&self) -> u32
-        ensures answered { result ≡ place_of self.now.phase }
-        ensures sound { IsSound self.now.phase }
+        ensures answered { result ≡ place_of (reading_of self.now).phase }
+        ensures sound { IsSound (reading_of self.now).phase }
     {
         self.phase.place()
     }
 
     /// How far the leaf has been read.
     pub fn phase(&self) -> Phase
-        ensures { result ≡ self.now.phase }
+        ensures { result ≡ (reading_of self.now).phase }
     {
         self.phase
     }
 
     /// The bytes that are left: those from the place of the next entry on.
     pub fn left(&self) -> &'a [u8]
-        ensures { result.now ≡ self.now.left }
+        ensures { result.now ≡ (reading_of self.now).left }
     {
         self.left
     }
@@ -67,17 +59,18 @@ impl<'a> Reader<'a> {
     /// (docs/FORMAT.md has their order) and leaves the reader as it was, so that asking again gives
     /// the same; after the end it is none each time.
     pub fn next_entry(&mut self) -> Result<Option<Entry>, Fault>
-        ensures answered { refusal result
-            ≡ first_refusal (next_checks self.old.phase (place_of self.old.phase) self.old.left) }
-        ensures taken { IfOk result (λ o. Takes self.old o self.new) }
-        ensures once { TakesOnce self.old }
+        ensures answered { refusal result ≡ first_refusal (checks_here (reading_of self.old)) }
+        ensures taken { IfOk result (λ o. Takes (reading_of self.old) o (reading_of self.new)) }
+        ensures once { TakesOnce (reading_of self.old) }
         ensures refused { OnErr result (self.new ≡ self.old) }
     {
         match self.taken()? {
             None => Ok(None),
             Some(taken) => {
-                self.left = taken.left;
-                self.phase = taken.phase;
+                *self = Reader {
+                    left: taken.left,
+                    phase: taken.phase,
+                };
                 Ok(Some(taken.entry))
             }
         }
@@ -85,12 +78,10 @@ impl<'a> Reader<'a> {
 
     // What comes next: the phase and the kind of the entry decide together how it is read.
     fn taken(&self) -> Result<Option<Taken<'a>>, Fault>
-        ensures answered { refusal result
-            ≡ first_refusal (next_checks self.now.phase (place_of self.now.phase) self.now.left) }
+        ensures answered { refusal result ≡ first_refusal (checks_here (reading_of self.now)) }
         ensures taken { IfOk result (λ o. MatchOption o
-            (IsTrue (is_closed self.now.phase) × (self.now.left ≡ []))
-            (λ t. TakesEntry self.now t.entry (reading t.phase t.left.now))) }
-        ensures sound { IsSound self.now.phase }
+            (IsTrue (is_closed self.now.phase) × (self.now.left.now ≡ []))
+            (λ t. TakesEntry (reading_of self.now) t.entry (reading t.phase t.left.now))) }
     {
         let at = self.place();
         let taken = match (self.phase, self.left) {

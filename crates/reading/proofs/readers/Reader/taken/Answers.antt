@@ -1,10 +1,11 @@
-use Rattle.std.proofs.Common.{◌≡◌, ℕ, ◌-◌, List, ◌∷◌, length, take, drop, sym, subst, arith}
+use Rattle.std.proofs.Common.{◌≡◌, ℕ, ◌-◌, List, ◌∷◌, length, take, drop, sym, refl, subst, arith}
 use Rattle.std.proofs.lemmas.Grind.{common_steps}
 use Rattle.leaves.specs.Entries.{letter_F, letter_R, letter_A, letter_Z}
 use Rattle.reading.specs.declared.entries.Taken.{Taken}
 use Rattle.reading.specs.declared.phases.Phase.{Phase}
 use Rattle.reading.specs.declared.phases.Phase.TheVariants.{Opening, Rows, Findings}
 use Rattle.reading.specs.Grammar.{after_rows, after_findings}
+use Rattle.reading.specs.Readers.{reading_of}
 use Rattle.reading.specs.Stepping.{TakesEntry, reading}
 use Rattle.reading.proofs.Taking.{seen_there}
 use Rattle.reading.proofs.readers.Reader.taken.Goals as goal
@@ -15,12 +16,12 @@ abbrev after_first : List ℕ → List ℕ
 after_first left = take (length left - 1) (drop 1 left)
 
 -- what an arm took, in the phase and at the letter that it matched, is what is taken
-there : (c : goal.Joined-self) (p : Phase) (k : ℕ) (t : Taken) → c.self.inside.phase ≡ p → c.self.inside.left.now ≡ k ∷ after_first c.self.inside.left.now → c.match-self.taken ≡ t
-    → TakesEntry (reading p (k ∷ after_first c.self.inside.left.now)) t.entry (reading t.phase t.left.now)
-    → TakesEntry c.args.self.now c.match-self.taken.entry (reading c.match-self.taken.phase c.match-self.taken.left.now)
+there : (c : goal.Joined-self) (p : Phase) (k : ℕ) (t : Taken) → c.args.self.now.phase ≡ p → c.args.self.now.left.now ≡ k ∷ after_first c.args.self.now.left.now → c.match-self.taken ≡ t
+    → TakesEntry (reading p (k ∷ after_first c.args.self.now.left.now)) t.entry (reading t.phase t.left.now)
+    → TakesEntry (reading_of c.args.self.now) c.match-self.taken.entry (reading c.match-self.taken.phase c.match-self.taken.left.now)
 there c p k t phase begins is taken =
-    subst (λ x. TakesEntry c.args.self.now x.entry (reading x.phase x.left.now)) (sym is)
-    (seen_there c.args.self.now c.self.inside.phase c.self.inside.left.now p (k ∷ after_first c.self.inside.left.now) t.entry (reading t.phase t.left.now) c.self.view_is phase begins taken)
+    subst (λ x. TakesEntry (reading_of c.args.self.now) x.entry (reading x.phase x.left.now)) (sym is)
+    (seen_there (reading_of c.args.self.now) c.args.self.now.phase c.args.self.now.left.now p (k ∷ after_first c.args.self.now.left.now) t.entry (reading t.phase t.left.now) refl phase begins taken)
 
 pub returns-clause-taken : goal.returns-clause-taken
 returns-clause-taken c =
