@@ -17,6 +17,10 @@ pub record Contents : Type 0 where
   pub rows : List Row
   pub findings : List Finding
 
+-- contents, written out
+abbrev pub contents : Heading → List Row → List Finding → Contents
+contents h rs fs = record { heading = h; rows = rs; findings = fs }
+
 -- the entries of a leaf: the heading, each row, each finding, and the end with the number of those before it
 abbrev pub entries : Contents → List Entry
 entries c =

@@ -23,21 +23,21 @@ use Rattle.writing.proofs.Written.{written_on}
 
 -- the heading, of which the frame is written first and the bound and the accuracy behind it
 pub heading_filed : (h : Heading) (n : HeadingNumbers) (old between new : List ℕ) → n ≡ heading_plain h → 1 + heading_size ≤ length old
-    → between ≡ written old 0 (letter_F ∷ four n.frame) → new ≡ written between 5 (n.bound ∷ n.accuracy ∷ []) → Files Opening old (heading h) (Rows h 0) new
+    → between ≡ written old 0 (letter_F ∷ four n.frame.ticks) → new ≡ written between 5 (n.bound ∷ n.accuracy ∷ []) → Files Opening old (heading h) (Rows h 0) new
 heading_filed h n old between new are room first second =
-    let behind = written_on old 0 (omega arith) (letter_F ∷ four n.frame) (n.bound ∷ n.accuracy ∷ []) in
+    let behind = written_on old 0 (omega arith) (letter_F ∷ four n.frame.ticks) (n.bound ∷ n.accuracy ∷ []) in
     record {
       step = opens;
       room = room;
-      bytes = second ∙ ap (λ xs. written xs 5 (n.bound ∷ n.accuracy ∷ [])) first ∙ behind ∙ ap (λ m. written old 0 (letter_F ∷ (four m.frame ++ m.bound ∷ m.accuracy ∷ []))) are;
+      bytes = second ∙ ap (λ xs. written xs 5 (n.bound ∷ n.accuracy ∷ [])) first ∙ behind ∙ ap (λ m. written old 0 (letter_F ∷ (four m.frame.ticks ++ m.bound ∷ m.accuracy ∷ []))) are;
     }
 
 -- a row
 pub row_filed : (h : Heading) (n : ℕ) (p : Phase) → Rows h n ≡ p → (r : Row) (old new : List ℕ) (place : ℕ)
-    → rows_in p < most_rows → is_on_frame (frame_in p) r ≡ true → place_of p + 1 + row_size ≤ length old → place ≡ place_of p → new ≡ written old place (entry_bytes (row r))
+    → rows_in p < most_rows → is_on_frame (frame_in p).ticks r ≡ true → place_of p + 1 + row_size ≤ length old → place ≡ place_of p → new ≡ written old place (entry_bytes (row r))
     → Files p old (row r) (Rows h (n + 1)) new
 row_filed h n p same r old new place few on room at bytes =
-    subst (λ p. rows_in p < most_rows → is_on_frame (frame_in p) r ≡ true → place_of p + 1 + row_size ≤ length old → place ≡ place_of p → Files p old (row r) (Rows h (n + 1)) new) same
+    subst (λ p. rows_in p < most_rows → is_on_frame (frame_in p).ticks r ≡ true → place_of p + 1 + row_size ≤ length old → place ≡ place_of p → Files p old (row r) (Rows h (n + 1)) new) same
     (λ few on room at. record { step = stands few on; room = omega (arith, room); bytes = bytes ∙ ap (λ i. written old i (entry_bytes (row r))) at })
     few on room at
 

@@ -1,9 +1,9 @@
 -- What is checked before an entry is filed: each check tells the place at which the entry was to begin.
-use Rattle.std.specs.Prelude.{ℕ, ◌+◌, not, List, [], ◌∷◌, ◌++◌, nat_lt}
+use Rattle.std.specs.Prelude.{ℕ, ◌+◌, List, [], ◌∷◌, ◌++◌, nat_lt}
 use Rattle.rows.specs.declared.refusals.Refusal.TheVariants.{OffFrame, ShortBuffer}
 use Rattle.rows.specs.declared.tasks.Row.{Row}
 use Rattle.rows.specs.Answers.{Check, check}
-use Rattle.rows.specs.Counting.{is_on_frame}
+use Rattle.rows.specs.Books.{is_off}
 use Rattle.rows.specs.declared.verdicts.Finding.{Finding}
 use Rattle.leaves.specs.declared.entries.HeadingNumbers.{HeadingNumbers}
 use Rattle.leaves.specs.Entries.{heading_size, row_size, finding_size, end_size}
@@ -17,15 +17,19 @@ use Rattle.reading.specs.Phases.{place_of, rows_in, findings_in, frame_in}
 abbrev pub room : ℕ → ℕ → ℕ → Check
 room size at length = check (nat_lt length (at + 1 + size)) ShortBuffer at
 
--- the heading: its numbers, and room for it
-abbrev pub begin_checks : HeadingNumbers → ℕ → List Check
-begin_checks n length = heading_checks n 0 ++ room heading_size 0 length ∷ []
+-- a heading: room for it
+abbrev pub begin_checks : ℕ → List Check
+begin_checks length = room heading_size 0 length ∷ []
+
+-- a heading in plain numbers: the numbers, and then the heading
+abbrev pub begin_numbers_checks : HeadingNumbers → ℕ → List Check
+begin_numbers_checks n length = heading_checks n 0 ++ begin_checks length
 
 -- a row: full table, off frame, and room for it
 abbrev pub row_checks : Phase → Row → ℕ → List Check
 row_checks p r length =
     full_table_check (rows_in p) (place_of p)
-    ∷ check (not (is_on_frame (frame_in p) r)) OffFrame (place_of p)
+    ∷ check (is_off (frame_in p) r) OffFrame (place_of p)
     ∷ room row_size (place_of p) length
     ∷ []
 

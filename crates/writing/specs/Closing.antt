@@ -1,7 +1,6 @@
 -- What closing a leaf answers.
 use Rattle.std.specs.Prelude.{Ok, Err, Result}
 use Rattle.rows.specs.Answers.{Answer, gives, refuses}
-use Rattle.rows.specs.Refusals.{number}
 use Rattle.writing.specs.declared.closed.ClosedLeaf.{ClosedLeaf}
 use Rattle.writing.specs.declared.closed.Unclosed.{Unclosed}
 

@@ -9,5 +9,5 @@ mod whole;
 
 pub use closed::{ClosedLeaf, Unclosed};
 pub use taking_findings::FindingsLeaf;
-pub use taking_rows::{RowsLeaf, begin};
-pub use whole::file;
+pub use taking_rows::{RowsLeaf, begin, begin_numbers};
+pub use whole::{file, file_numbers};

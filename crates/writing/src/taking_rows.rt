@@ -5,7 +5,7 @@ ghost use Rattle.leaves.specs.Headings.{heading_plain};
 ghost use Rattle.leaves.specs.declared.entries.Heading.{Heading};
 ghost use Rattle.leaves.specs.declared.entries.Entry.{Entry};
 ghost use Rattle.reading.specs.declared.phases.Phase.{Phase};
-ghost use Rattle.writing.specs.Checks.{begin_checks};
+ghost use Rattle.writing.specs.Checks.{begin_checks, begin_numbers_checks};
 ghost use Rattle.writing.specs.Filing.{Files, IsReadTo};
 
 use crate::bytes::{check_room, put, put_numbers};
@@ -36,21 +36,32 @@ impl Model for RowsLeaf {
     ghost invariant = { λ leaf. leaf.rows ≤ most_rows };
 }
 
-/// Begins a leaf in a buffer: files the heading of these numbers at the first byte, and writes no
-/// other byte (docs/FORMAT.md, Writing). Refused with the first of these that applies, at 0: 1, bad
-/// frame; 20, unknown bound; 3, bad accuracy; 19, short buffer, of fewer than 7 bytes. A refusal
-/// leaves the buffer as it was.
-pub fn begin(heading: HeadingNumbers, buffer: &mut [u8]) -> Result<RowsLeaf, Fault>
+/// Begins a leaf in a buffer: files its heading at the first byte, and writes no other byte
+/// (docs/FORMAT.md, Writing). Refused with 19, short buffer, at 0 where the buffer has fewer than 7
+/// bytes. A refusal leaves the buffer as it was.
+pub fn begin(heading: Heading, buffer: &mut [u8]) -> Result<RowsLeaf, Fault>
+    ensures answered { refusal result ≡ first_refusal (begin_checks (length buffer.old)) }
+    ensures filed { IfOk result (λ leaf.
+        Files Phase.Opening buffer.old (Entry.Heading heading) leaf buffer.new
+        × IsReadTo buffer.new (Entry.Heading heading ∷ []) leaf) }
+    ensures refused { OnErr result (buffer.new ≡ buffer.old) }
+{
+    check_room(buffer, 0, HEADING_SIZE)?;
+    Ok(RowsLeaf::opened(heading, buffer))
+}
+
+/// Begins a leaf with the heading of these numbers, which nobody has judged, as `begin` does. Refused
+/// with the first of these that applies, at 0: 1, bad frame; 20, unknown bound; 3, bad accuracy; 19,
+/// short buffer. A refusal leaves the buffer as it was.
+pub fn begin_numbers(numbers: HeadingNumbers, buffer: &mut [u8]) -> Result<RowsLeaf, Fault>
     ensures answered { refusal result
-        ≡ first_refusal (begin_checks heading (length buffer.old)) }
-    ensures filed { IfOk result (λ leaf. (h : Heading) × (heading_plain h ≡ heading)
+        ≡ first_refusal (begin_numbers_checks numbers (length buffer.old)) }
+    ensures filed { IfOk result (λ leaf. (h : Heading) × (heading_plain h ≡ numbers)
         × Files Phase.Opening buffer.old (Entry.Heading h) leaf buffer.new
         × IsReadTo buffer.new (Entry.Heading h ∷ []) leaf) }
     ensures refused { OnErr result (buffer.new ≡ buffer.old) }
 {
-    let judged = heading.judge(0)?;
-    check_room(buffer, 0, HEADING_SIZE)?;
-    Ok(RowsLeaf::opened(judged, buffer))
+    begin(numbers.judge(0)?, buffer)
 }
 
 impl RowsLeaf {
@@ -73,7 +84,7 @@ impl RowsLeaf {
         ensures filed { Files Phase.Opening buffer.old (Entry.Heading heading) result buffer.new }
     {
         let numbers = heading.numbers();
-        put_numbers(buffer, 0, b'F', &[numbers.frame]);
+        put_numbers(buffer, 0, b'F', &[numbers.frame.ticks]);
         put(buffer, 5, &[numbers.bound, numbers.accuracy]);
         RowsLeaf { heading, rows: 0 }
     }
@@ -107,7 +118,7 @@ impl RowsLeaf {
         if usize::from(self.rows) >= MOST_ROWS {
             return Err(Refusal::FullTable.at(at));
         }
-        if !row.stands_on(self.heading.frame) {
+        if !row.divides(self.heading.frame.ticks) {
             return Err(Refusal::OffFrame.at(at));
         }
         check_room(buffer, at, ROW_SIZE)?;
@@ -118,7 +129,7 @@ impl RowsLeaf {
     // Writes a row on the frame where it is to begin, where there is room for it.
     pub(crate) fn put_row(&mut self, row: &Row, buffer: &mut [u8])
         requires few { rows_in self.old < most_rows }
-        requires on { IsTrue (is_on_frame (frame_in self.old) row.now) }
+        requires on { IsTrue (is_on_frame (frame_in self.old).ticks row.now) }
         requires room { place_of self.old + 1 + row_size ≤ length buffer.old }
         ensures { Files self.old buffer.old (Entry.Row row.now) self.new buffer.new }
     {

@@ -18,8 +18,8 @@ put_row-requires-clause-few c =
 pub put_row-requires-clause-on : goal.put_row-requires-clause-on
 put_row-requires-clause-on c =
     let so_far = rows_before c.loop-row.row-index c.args.rows.now (omega (arith, c.loop-row-test.true)) c.loop-row.invariant in
-    ap₂ is_on_frame so_far.frame c.row-item.is
-    ∙ All-get_or (λ r. is_on_frame (frame_in c.args.leaf) r ≡ true) c.args.rows.now c.loop-row.row-index c.row-item.result c.loop-row-test.true c.requires.on
+    ap₂ (λ h. is_on_frame h.ticks) so_far.frame c.row-item.is
+    ∙ All-get_or (λ r. is_on_frame (frame_in c.args.leaf).ticks r ≡ true) c.args.rows.now c.loop-row.row-index c.row-item.result c.loop-row-test.true c.requires.on
 
 pub put_row-requires-clause-room : goal.put_row-requires-clause-room
 put_row-requires-clause-room c =
