@@ -1,6 +1,6 @@
 -- What the supplied bounds are called.
-use Rattle.std.specs.Prelude.{ℕ, Bool, true, false, not, List, [], ◌∷◌, ◌++◌, ◌==◌, Option, codes, decimal, find, if◌then◌else◌}
-use Rattle.rows.specs.declared.refusals.Refusal.TheVariants.{BadAccuracy}
+use Rattle.std.specs.Prelude.{ℕ, Bool, true, false, not, List, [], ◌∷◌, ◌++◌, ◌==◌, Some, None, Option, codes, decimal, find, if◌then◌else◌}
+use Rattle.rows.specs.declared.refusals.Refusal.TheVariants.{BadAccuracy, UnknownBound}
 use Rattle.rows.specs.Answers.{Check, check}
 use Rattle.bounds.specs.declared.families.Family.{Family}
 use Rattle.bounds.specs.declared.families.Family.TheVariants.{ExactSteps as exact_kind, LinearTail as tail_kind}
@@ -46,6 +46,18 @@ can_have f k = if has_accuracies f then is_accuracy k else k == 0
 -- what is checked of it: bad accuracy
 abbrev pub family_accuracy_checks : Family → ℕ → List Check
 family_accuracy_checks f k = check (not (can_have f k)) BadAccuracy 0 ∷ []
+
+-- a bound as a heading tells it: the number of its kind, and the accuracy
+abbrev pub bound_numbers : Supplied → ℕ × ℕ
+bound_numbers b = (family_number (supplied_plain b).0, (supplied_plain b).1)
+
+-- what is checked of a bound that a number and an accuracy name, in order: unknown bound; bad accuracy
+abbrev pub named_checks : ℕ → ℕ → List Check
+named_checks n k = checks (family_of_number n)
+  where
+    checks : Option Family → List Check
+    checks None = check true UnknownBound 0 ∷ []
+    checks (Some f) = family_accuracy_checks f k
 
 -- a bound as a person reads it: exact steps, or linear tail of accuracy 3
 abbrev pub shown_bound : Supplied → List ℕ

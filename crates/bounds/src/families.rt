@@ -107,7 +107,24 @@ impl Family {
 
 impl Supplied {
     ghost use Rattle.std.specs.Prelude.{◌≡◌};
-    ghost use Rattle.bounds.specs.Families.{supplied_plain};
+    ghost use Rattle.rows.specs.Answers.{answer, checked};
+    ghost use Rattle.bounds.specs.Families.{bound_numbers, named_checks, supplied_plain};
+
+    /// The bound that the number of its kind and an accuracy name together, as a heading does
+    /// (docs/FORMAT.md, Entries): the accuracy is 0 where there is but one bound of the kind.
+    ///
+    /// Refused, each at 0, with 20, unknown bound, for a number of no kind; then with 3, bad accuracy,
+    /// for an accuracy that no bound of the kind has (docs/REFUSALS.md).
+    #[tactic(auto, using(crate::proofs::Numbered::number_of_kind))]
+    pub fn named(number: u8, accuracy: u8) -> Result<Supplied, Fault>
+        ensures { answer bound_numbers result
+            ≡ checked (named_checks number accuracy) (number, accuracy) }
+    {
+        match Family::of_number(number) {
+            Some(family) => family.bound(u32::from(accuracy)),
+            None => Err(Refusal::UnknownBound.at(0)),
+        }
+    }
 
     /// The kind of the bound, and the accuracy that is told with it: 0 where there is but one of the
     /// kind.

@@ -50,7 +50,7 @@ impl Filing {
     ghost use Rattle.bounds.specs.Values.{accuracy_of, meaning_of};
     ghost use Rattle.rows.specs.Found.{tells};
     ghost use Rattle.leaves.specs.Contents.{Contents};
-    ghost use Rattle.leaves.specs.Headings.{bound_numbers};
+    ghost use Rattle.bounds.specs.Families.{bound_numbers};
     ghost use Rattle.findings.specs.Countable.{CanBeCounted};
     ghost use Rattle.sheets.specs.Answers.{IsPut};
     ghost use Rattle.filings.specs.Filings.{filed, findings_by, exact_findings, bounded_findings, heading_of, IsLeafOf};

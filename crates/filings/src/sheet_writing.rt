@@ -5,7 +5,7 @@ ghost use Rattle.rows.specs.Lists.{written};
 ghost use Rattle.rows.specs.Judging.{plain, rows_of};
 ghost use Rattle.leaves.specs.declared.entries.Entry.{Entry};
 ghost use Rattle.leaves.specs.Entries.{row_size};
-ghost use Rattle.leaves.specs.Headings.{bound_numbers};
+ghost use Rattle.bounds.specs.Families.{bound_numbers};
 ghost use Rattle.reading.specs.Phases.{place_of, rows_in, frame_in};
 ghost use Rattle.writing.specs.Filing.{FilesAll};
 ghost use Rattle.sheets.specs.Tables.{Table, sheet_bytes};

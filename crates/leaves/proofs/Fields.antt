@@ -13,7 +13,8 @@ use Rattle.rows.specs.declared.verdicts.Verdict.TheVariants.{Meets, Misses}
 use Rattle.rows.specs.Found.{verdict_rest, tells}
 use Rattle.leaves.specs.declared.entries.Heading.{Heading}
 use Rattle.leaves.specs.Bytes.{four, number_at}
-use Rattle.leaves.specs.Headings.{heading_plain, bound_numbers}
+use Rattle.bounds.specs.Families.{bound_numbers}
+use Rattle.leaves.specs.Headings.{heading_plain}
 use Rattle.leaves.specs.Judging.{is_in_range, IsFilable}
 use Rattle.leaves.specs.Entries.{heading_body, row_body, finding_body, heading_size, row_size, finding_size, end_size}
 use Rattle.leaves.proofs.SameHeading.{frame_near, same_heading}

@@ -17,7 +17,8 @@ use Rattle.bounds.specs.declared.supplied.Supplied.{Supplied}
 use Rattle.bounds.specs.declared.supplied.Supplied.TheVariants.{ExactSteps as exact, LinearTail as tail}
 use Rattle.bounds.specs.Meaning.{finest, is_accuracy}
 use Rattle.leaves.specs.declared.entries.Heading.{Heading}
-use Rattle.leaves.specs.Headings.{told_at, bound_checks, heading_plain, heading_checks, bound_numbers}
+use Rattle.bounds.specs.Families.{bound_numbers, named_checks}
+use Rattle.leaves.specs.Headings.{told_at, bound_checks, heading_plain, heading_checks}
 
 -- where no check refuses, none does so that tells another position
 pub all_pass : (at : ℕ) (cs : List Check) → Passes cs → Passes (told_at at cs)
@@ -38,9 +39,12 @@ pub heading_passes : (h : Heading) (at : ℕ) → first_refusal (heading_checks 
 heading_passes h at =
     sym (passed_first (told_at at (frame_checks h.frame)) (bound_checks (heading_plain h) at) tt tt (all_pass at (frame_checks h.frame) (sym (framed h.frame h.framed))) tt) ∙ named h.bound
   where
+    fine : (b : Supplied) → first_refusal (named_checks (bound_numbers b).0 (bound_numbers b).1) ≡ gives tt
+    fine exact = refl
+    fine (tail t) = passes_on (not (is_accuracy t.accuracy)) BadAccuracy 0 _ (not_from_true _ (and_from _ _ (le-leb 1 t.accuracy t.low) (le-leb t.accuracy finest t.high)))
+
     named : (b : Supplied) → first_refusal (bound_checks (record { frame = h.frame; bound = (bound_numbers b).0; accuracy = (bound_numbers b).1 }) at) ≡ gives tt
-    named exact = refl
-    named (tail t) = passes_on (not (is_accuracy t.accuracy)) BadAccuracy at _ (not_from_true _ (and_from _ _ (le-leb 1 t.accuracy t.low) (le-leb t.accuracy finest t.high)))
+    named b = sym (all_pass at (named_checks (bound_numbers b).0 (bound_numbers b).1) (sym (fine b)))
 
 -- and so do those of a row
 pub numbers_pass : (r : Row) (at : ℕ) → first_refusal (flaw_checks row_flaws (plain r) at) ≡ gives tt

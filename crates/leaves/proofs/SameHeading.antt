@@ -10,7 +10,8 @@ use Rattle.bounds.specs.declared.supplied.Supplied.{Supplied}
 use Rattle.bounds.specs.declared.supplied.Supplied.TheVariants.{ExactSteps as exact, LinearTail as tail}
 use Rattle.bounds.proofs.SameTail.{same_tail}
 use Rattle.leaves.specs.declared.entries.Heading.{Heading}
-use Rattle.leaves.specs.Headings.{heading_plain, bound_numbers}
+use Rattle.bounds.specs.Families.{bound_numbers}
+use Rattle.leaves.specs.Headings.{heading_plain}
 
 -- the frame of a heading ends at the horizon
 pub frame_near : (h : Heading) → h.frame.ticks ≤ horizon

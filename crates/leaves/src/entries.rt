@@ -16,8 +16,8 @@ pub const FINDING_SIZE: usize = 8;
 /// How many bytes the body of the end has.
 pub const END_SIZE: usize = 4;
 
-/// The plain numbers of a heading, which nobody has judged: the frame, the bound by its number
-/// (0 exact steps, 1 linear tail), and the accuracy of the linear tail (0 for exact steps).
+/// The plain numbers of a heading, which nobody has judged: the frame, the bound by the number of its
+/// kind, and its accuracy (docs/FORMAT.md, Entries).
 #[derive(Clone, Copy, PartialEq, Eq, Debug)]
 pub struct HeadingNumbers {
     pub frame: FrameNumbers,

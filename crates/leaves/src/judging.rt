@@ -2,11 +2,12 @@
 ghost use Rattle.std.specs.Prelude.{◌≡◌, OnOk};
 ghost use Rattle.rows.specs.Answers.{answer, checked};
 ghost use Rattle.rows.specs.Frames.{IsFrame, frame_checks};
-ghost use Rattle.leaves.specs.Headings.{told_at, bound_checks, heading_checks, heading_plain, bound_numbers};
+ghost use Rattle.bounds.specs.Families.{bound_numbers};
+ghost use Rattle.leaves.specs.Headings.{told_at, bound_checks, heading_checks, heading_plain};
 ghost use Rattle.leaves.specs.Judging.{finding_checks};
 
 use crate::entries::{Heading, HeadingNumbers};
-use bounds::{Bound, LinearTail, Supplied};
+use bounds::Supplied;
 use rows::{Fault, Finding, Frame, HORIZON, Refusal, Verdict};
 
 impl HeadingNumbers {
@@ -41,14 +42,9 @@ impl HeadingNumbers {
         ensures { answer bound_numbers result
             ≡ checked (bound_checks self.now at) (self.now.bound, self.now.accuracy) }
     {
-        match (self.bound, self.accuracy) {
-            (0, 0) => Ok(Supplied::ExactSteps),
-            (0, _) => Err(Refusal::BadAccuracy.at(at)),
-            (1, accuracy) => match LinearTail::new(u32::from(accuracy)) {
-                Ok(tail) => Ok(Supplied::LinearTail(tail)),
-                Err(fault) => Err(fault.refusal.at(at)),
-            },
-            _ => Err(Refusal::UnknownBound.at(at)),
+        match Supplied::named(self.bound, self.accuracy) {
+            Ok(bound) => Ok(bound),
+            Err(fault) => Err(fault.refusal.at(at)),
         }
     }
 }
@@ -62,19 +58,16 @@ impl Heading {
         self.frame.judge().unwrap()
     }
 
-    /// The plain numbers of the heading: the frame, the bound by its number (0 exact steps, 1 linear
-    /// tail), and the accuracy of the linear tail, 0 for exact steps (docs/FORMAT.md, Entries).
+    /// The plain numbers of the heading: the frame, the bound by the number of its kind, and its accuracy,
+    /// 0 where there is but one of the kind (docs/FORMAT.md, Entries).
     pub fn numbers(&self) -> HeadingNumbers
         ensures { result ≡ heading_plain self.now }
     {
-        let (bound, accuracy) = match self.bound {
-            Supplied::ExactSteps => (0, 0),
-            Supplied::LinearTail(tail) => (1, tail.accuracy() as u8),
-        };
+        let (kind, accuracy) = self.bound.plain();
         HeadingNumbers {
             frame: self.frame,
-            bound,
-            accuracy,
+            bound: kind.number(),
+            accuracy: accuracy as u8,
         }
     }
 }

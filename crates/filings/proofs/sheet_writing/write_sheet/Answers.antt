@@ -2,7 +2,8 @@ use Rattle.std.proofs.Common.{◌≡◌, ◌≤◌, length, take, refl, ap, ap�
 use Rattle.rows.specs.Answers.{gives}
 use Rattle.std.proofs.lemmas.List.{length-map}
 use Rattle.std.proofs.lemmas.Result.{err_from_is_err_and}
-use Rattle.leaves.specs.Headings.{bound_numbers, heading_plain}
+use Rattle.bounds.specs.Families.{bound_numbers}
+use Rattle.leaves.specs.Headings.{heading_plain}
 use Rattle.reading.specs.Phases.{frame_in, place_of}
 use Rattle.rows.specs.Judging.{plain, rows_of}
 use Rattle.rows.specs.Refusals.{number}

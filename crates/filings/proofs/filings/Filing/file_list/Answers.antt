@@ -1,6 +1,7 @@
 use Rattle.std.proofs.Common.{◌≡◌, length, refl, ap, ◌∙◌, sym}
 use Rattle.leaves.specs.declared.entries.Heading.{Heading}
-use Rattle.leaves.specs.Headings.{bound_numbers, heading_plain}
+use Rattle.bounds.specs.Families.{bound_numbers}
+use Rattle.leaves.specs.Headings.{heading_plain}
 use Rattle.writing.specs.Whole.{AreOf}
 use Rattle.sheets.specs.Tables.{table}
 use Rattle.sheets.proofs.Leaves.{leaf_of, put_answers, puts}
