@@ -2,6 +2,7 @@
 use Rattle.std.specs.Prelude.{ℕ, ◌+◌, Bool, not, [], ◌≤◌, List, ◌∷◌, map, length, nat_le, nat_lt}
 use Rattle.std.specs.List.{AllPass}
 use Rattle.rows.specs.declared.frames.FrameNumbers.{FrameNumbers}
+use Rattle.rows.specs.declared.judging.Flaw.{Flaw}
 use Rattle.rows.specs.declared.refusals.Refusal.TheVariants.{FullTable, OffFrame}
 use Rattle.rows.specs.declared.tasks.Numbers.{Numbers}
 use Rattle.rows.specs.declared.tasks.Row.{Row}
@@ -35,10 +36,14 @@ plain_book b = (b.frame, map plain b.rows)
 abbrev pub full_table : ℕ → Check
 full_table rows = check (nat_lt most_rows rows) FullTable 0
 
--- what is checked of the numbers of a table on a frame, in order: full table; then each flaw at every rank before the
+-- what is checked of the numbers of a table for flaws, in order: full table; then each flaw at every rank before the
 -- next, with the smallest rank concerned
+abbrev pub flawless_checks : List Flaw → List Numbers → List Check
+flawless_checks flaws table = full_table (length table) ∷ table_flaw_checks flaws table
+
+-- what is checked of the numbers of a table on a frame: all flaws, so
 abbrev pub judge_checks : FrameNumbers → List Numbers → List Check
-judge_checks h table = full_table (length table) ∷ table_flaw_checks (frame_flaws h) table
+judge_checks h table = flawless_checks (frame_flaws h) table
 
 -- a row is off the frame
 abbrev pub is_off : FrameNumbers → Row → Bool

@@ -1,6 +1,7 @@
 // A table: rows in rank order on a frame, judged once.
-ghost use Rattle.std.specs.Prelude.{IsTrue, ◌≡◌, ◌+◌, ◌<◌, ◌≤◌, [], ◌∷◌, ◌++◌, length};
+ghost use Rattle.std.specs.Prelude.{IsTrue, ◌≡◌, ◌+◌, ◌<◌, ◌≤◌, [], ◌∷◌, ◌++◌, length, OnOk};
 ghost use Rattle.rows.specs.Answers.{answer, checked};
+ghost use Rattle.rows.specs.Books.{flawless_checks};
 ghost use Rattle.rows.specs.Judging.{table_flaw_check, table_flaw_checks};
 ghost use Rattle.rows.specs.Times.{most_rows};
 
@@ -53,6 +54,21 @@ fn check_numbers(flaws: &[Flaw], table: &[Numbers]) -> Result<(), Fault>
     Ok(())
 }
 
+/// Refuses the numbers of a table that has too many, or of which some have one of the flaws: each flaw
+/// is looked for at every rank before the next.
+///
+/// Refused with 9, full table, at 0 for more than 32; then with the refusal of the first flaw that some
+/// have, at the smallest rank that has it (docs/REFUSALS.md).
+pub fn check_table(flaws: &[Flaw], table: &[Numbers]) -> Result<(), Fault>
+    ensures answered { answer (λ u. u) result ≡ checked (flawless_checks flaws.now table.now) tt }
+    ensures few { OnOk result (length table.now ≤ most_rows) }
+{
+    if table.len() > MOST_ROWS {
+        return Err(Refusal::FullTable.at(0));
+    }
+    check_numbers(flaws, table)
+}
+
 impl Table {
     ghost use Rattle.rows.specs.Answers.{answer, checked, first_refusal, refusal};
     ghost use Rattle.rows.specs.Books.{IsJudged, book, plain_book, judge_checks, rows_checks, put_checks};
@@ -84,10 +100,7 @@ impl Table {
         ensures made { IfOk result (λ t. t ≡ book frame.now (rows_of numbers.now)) }
         ensures rows { OnOk result (map plain (rows_of numbers.now) ≡ numbers.now) }
     {
-        if numbers.len() > MOST_ROWS {
-            return Err(Refusal::FullTable.at(0));
-        }
-        check_numbers(&frame_flaws(frame), numbers)?;
+        check_table(&frame_flaws(frame), numbers)?;
         let mut table = Table::new(frame);
         for row in numbers {
             table.add(row.judge_on(frame, 0).unwrap());
