@@ -10,7 +10,7 @@ line, and `stdout` with the answers, each behind a line `=== ` and the command l
 | `file TABLE --linear K [--frame H]` | the table up to the line of rows that meet, and both leaves in hexadecimal |
 | `show [--csv \\| --json] LEAF ..` | what is printed, and `status 1` where a leaf was damaged |
 | `compare A B` | what is printed |
-| `plot TABLE --rank R --linear K [--frame H]` | the numbers that the picture tells |
+| `plot TABLE --rank R --linear K [--frame H]` | the picture's description |
 | `sheet TABLE [--linear K] [--frame H]` | the sheet in hexadecimal |
 | `bench SCRIPT` | what is printed |
 
@@ -139,6 +139,8 @@ def forms():
         '  B      2         6       6  ',
         'E 3 12 12',
     ), '--linear 1')
+    table('letters.csv', lines('name,C,D,T,J', 'A,1,4,4,0', 'B,2,6,6,1', 'E,3,12,12,0'))
+    table('wcet.txt', lines('T  wcet  jitter  deadline', '4  1  0  4', '6  2  1  6'))
     table('order.csv', lines('period,jitter,name,deadline,work', '4,0,A,4,1', '6,1,B,6,2', '12,0,E,12,3'))
     table('bare.csv', lines('deadline,work,period', '4,1,4', '6,2,6'))
     table('jitter.txt', lines('jitter work period deadline', '1 1 4 4', '0 2 12 8'), '--linear 1')
@@ -249,7 +251,7 @@ def random_tables():
 
 HEADING = 'name,work,deadline,period,jitter'
 A_NUMBER = 'expected a number from 0 to 4294967295'
-A_HEADING = 'expected name, work, deadline, period or jitter'
+A_HEADING = 'expected name, work (wcet, C), deadline (D), period (T) or jitter (J)'
 NO_TEXT = 'bytes that are no text stand there, expected UTF-8'
 
 
@@ -275,6 +277,15 @@ def bad_headings():
     bad('h-none.csv', 'jitter,name\n1,\n', 'line 1: no heading work stands there, expected work, deadline and period')
     bad('h-order.csv', 'name,period,x,y\n', f'line 1, field 3: "x" stands there, {A_HEADING}')
     bad('h-bytes.csv', b'#\nname,w\xf6rk,name,foo\n', f'line 2, field 2: {NO_TEXT}')
+    bad('h-mark-comment.csv', MARK + '#\nfoo', f'line 2, field 1: "foo" stands there, {A_HEADING}')
+    bad('h-mark-lines.csv', MARK + '\r\n\n# a\rb,c\n\rC,D,x\n', f'line 6, field 3: "x" stands there, {A_HEADING}')
+    bad('h-marks.csv', MARK + MARK + 'work,deadline,period\n', f'line 1, field 1: "{MARK}work" stands there, {A_HEADING}')
+    bad('h-mark-alone.csv', MARK, nothing(1))
+    bad('h-mark-end.csv', MARK + '# a', nothing(2))
+    bad('h-letter-again.csv', 'C,D,T,work\n', 'line 1, field 4: "work" stands there again, expected each heading once')
+    bad('h-wcet-again.csv', 'work,D,wcet,T\n', 'line 1, field 3: "wcet" stands there again, expected each heading once')
+    bad('h-small-letter.csv', 'C,d,T\n', f'line 1, field 2: "d" stands there, {A_HEADING}')
+    bad('h-letters.csv', '# a\nC,T,J\n', 'line 2: no heading deadline stands there, expected work, deadline and period')
     bad('h-bytes-later.csv', b'Work,\xff,name,name\n', f'line 1, field 1: "Work" stands there, {A_HEADING}')
     bad('h-again-later.tsv', b'name\tperiod\tname\t\xff\n', 'line 1, field 3: "name" stands there again, expected each heading once')
     bad('h-long.csv', f'work,"  {41 * "h"}",period\n', f'line 1, field 2: "{40 * "h"}.." stands there, {A_HEADING}')
@@ -300,6 +311,9 @@ def bad_fields():
     bad('f-open-quote.csv', f'{HEADING}\nA,1,4,4,0\n"B,2,6,6,0\nE,3,12,12,0\n', 'line 3: 1 fields stand there, expected 5')
     bad('f-quoted-ends.csv', f'{HEADING}\n"A\nB\r\n\n",1,4,4,0\n# a\n"C\n",1,4,4\n', 'line 7: 4 fields stand there, expected 5')
     bad('f-quoted-number.csv', f'# a\n{HEADING}\n"A\n# b\n",x,4,4,0\n', f'line 3, field 2 (work): "x" stands there, {A_NUMBER}')
+    bad('f-mark.csv', MARK + f'# a\n\n{HEADING}\nA,1,4,4,0\n"B\n",2,6,6,x\n',
+        f'line 5, field 5 (jitter): "x" stands there, {A_NUMBER}')
+    bad('f-letter.csv', 'C,D,T\n1,4,4\n2,x,6\n', f'line 3, field 2 (deadline): "x" stands there, {A_NUMBER}')
     bad('f-33.csv', '# a\n\n' + rows_text(FULL_ROWS + [(1, 720, 720, 0)]),
         'line 36: a task more stands there, expected at most 32: refused 9 full table')
     bad('f-33-few.csv', rows_text(FULL_ROWS) + ',,,,\n"  "\nx,1\n',
@@ -354,6 +368,11 @@ def bad_bytes():
     """Bytes that are no text."""
     bad('b-name.csv', b'# \xe4\n\nname,work,deadline,period\n\xe4,1,4,4\n', f'line 4, field 1 (name): {NO_TEXT}')
     bad('b-quoted.csv', b'work,deadline,period,name\n1,4,4,"a,\n\xc3"\n', f'line 2, field 4 (name): {NO_TEXT}')
+    bad('b-number.csv', b'# a\nwork,deadline,period\n1,4\xff,4\n', f'line 3, field 2 (deadline): {NO_TEXT}')
+    bad('b-numbers.csv', b'J,T,D,C\n\xc3\xa4,4,\x80,\x80\n',
+        f'line 2, field 1 (jitter): "\u00e4" stands there, {A_NUMBER}')
+    bad('b-long.csv', b'work,deadline,period\n1,4,' + 60 * b'9' + b'\xed\xa0\x80\n',
+        f'line 2, field 3 (period): {NO_TEXT}')
     bad('b-later.csv', b'name,work,deadline,period\nA,x,4,\xc0\x80\n', f'line 2, field 2 (work): "x" stands there, {A_NUMBER}')
     bad('b-few.csv', b'name,work,deadline,period\nA,\xf5,4\n', 'line 2: 3 fields stand there, expected 4')
 
@@ -376,12 +395,13 @@ def refused_tables():
         'line 2, field 2 (work): 5 stands there, expected a work of at least 1 that fits: the deadline 6 is below the jitter 9: '
         'refused 5 no window at rank 1')
     bad('r-window-none.csv', with_row(4, 1, 6, 6, 6),
-        'line 5, field 2 (work): 1 stands there, expected at most 0, the deadline 6 less the jitter 6: refused 5 no window at rank 4')
+        'line 5, field 2 (work): 1 stands there, expected a work of at least 1 that fits: the jitter 6 leaves none of the '
+        'deadline 6: refused 5 no window at rank 4')
     bad('r-window-plain.txt', 'period work deadline\n12 00013 0012\n',
         'line 2, field 2 (work): 13 stands there, expected at most 12, the deadline 12 less the jitter 0: refused 5 no window at rank 1')
     bad('r-window-sum.csv', with_row(2, MOST_NUMBER, MOST_NUMBER, MOST_NUMBER, MOST_NUMBER),
-        f'line 3, field 2 (work): {MOST_NUMBER} stands there, expected at most 0, the deadline {MOST_NUMBER} less the jitter '
-        f'{MOST_NUMBER}: refused 5 no window at rank 2')
+        f'line 3, field 2 (work): {MOST_NUMBER} stands there, expected a work of at least 1 that fits: the jitter '
+        f'{MOST_NUMBER} leaves none of the deadline {MOST_NUMBER}: refused 5 no window at rank 2')
     bad('r-late.csv', with_row(1, 2, 7, 6, 0),
         'line 2, field 3 (deadline): 7 stands there, expected at most the period 6: refused 6 late deadline at rank 1')
     bad('r-late-3.tsv', 'deadline\tperiod\twork\n4\t4\t1\n\n6\t6\t1\n4294967295\t0\t1\n',
@@ -439,11 +459,29 @@ def refused_options():
     ask('file empty.csv --linear 0 --frame 0', trouble(nothing(1)))
 
 
+def thinned_plots():
+    """Windows that are thinned to columns of ceiling(window / 720) ticks: of 720 ticks a column has one, of 721 two.
+
+    Above the row stands one of period 1, each of whose releases in the window is a test point by a tail that is accurate
+    enough; of 64 of them the last is at 63.
+    """
+    for window_told, columns in [(720, 63), (721, 32), (1440, 32), (1441, 21)]:
+        put(f'column-{window_told}.csv', lines('C,D,T', '1,1,1', f'1,{window_told},{window_told}'))
+        # Of the first 63 instants the first in each column is drawn, and the end of the window.
+        ask(f'plot column-{window_told}.csv --rank 2 --linear 64', f'rank 2; window {window_told}; '
+            f'exact misses points {window_told}; linear-64 misses points 64; '
+            f'drawn {columns + 1} of 64 test points by the tail\n')
+
+
 def plots():
-    """The numbers of pictures."""
-    ask('plot worked.csv --rank 3 --linear 3', 'rank 3; window 12; exact rest 10 points 4; linear-3 rest 11 points 4\n')
-    ask('plot worked.csv --rank 3 --linear 1', 'rank 3; window 12; exact rest 10 points 4; linear-1 misses points 1\n')
-    ask('plot worked.csv --rank 2 --linear 1 --frame 24', 'rank 2; window 5; exact rest 3 points 1; linear-1 rest 4 points 1\n')
+    """The descriptions of pictures."""
+    ask('plot worked.csv --rank 3 --linear 3', 'rank 3; window 12; exact rest 10 points 4; linear-3 rest 11 points 4; '
+        'drawn 5 of 5 test points by the tail\n')
+    ask('plot worked.csv --rank 3 --linear 1', 'rank 3; window 12; exact rest 10 points 4; linear-1 misses points 1; '
+        'drawn 1 of 1 test points by the tail\n')
+    ask('plot worked.csv --rank 2 --linear 1 --frame 24', 'rank 2; window 5; exact rest 3 points 1; '
+        'linear-1 rest 4 points 1; drawn 1 of 1 test points by the tail\n')
+    thinned_plots()
     for line in [
         'both-miss.csv --rank 3 --linear 4', 'tail-misses.csv --rank 3 --linear 2', 'full.csv --rank 32 --linear 5',
         'long-windows.csv --rank 4 --linear 9',
@@ -588,6 +626,8 @@ def good_leaves():
     by_hand('misses-1.leaf', WORKED_ROWS, [(0, 1), (3, 1), (0, 4)], 64)
     by_hand('far.leaf', [(1, HORIZON, HORIZON, HORIZON - 1)], [(HORIZON, MOST_NUMBER)], 64, HORIZON)
     put('komma,"blätter".leaf', files['worked.exact.leaf'])
+    put('control\x01\x7f.leaf', files['worked.exact.leaf'])
+    put('d13-control\x01\x7f.leaf', files['worked.exact.leaf'][:-1])
 
 
 def damaged_leaves():
@@ -669,6 +709,9 @@ def shows():
     ask('show jitters.exact.leaf jitters.linear-2.leaf horizon.exact.leaf horizon.linear-2.leaf')
     ask('show earlier.leaf later.leaf misses.leaf misses-1.leaf far.leaf')
     ask('show komma,"blätter".leaf')
+    ask('show control\x01\x7f.leaf', 'control??.leaf' + EXACT_TOLD.removeprefix('worked.exact.leaf'))
+    ask('show d13-control\x01\x7f.leaf',
+        'd13-control??.leaf: refused 13 cut leaf at byte 89, around it 00 00 00 04 5a 00 00 00 []\nstatus 1\n')
     ask('show worked.csv d13-letter.leaf')
     ask(f'show {" ".join(damaged)}')
     ask('show --csv full.linear-1.leaf later.leaf')
@@ -677,6 +720,7 @@ def shows():
         ask(f'show {form} none.exact.leaf none.linear-7.leaf')
         ask(f'show {form} worked.exact.leaf d13-end.leaf none.exact.leaf misses-1.leaf')
         ask(f'show {form} komma,"blätter".leaf far.leaf')
+        ask(f'show {form} control\x01\x7f.leaf d13-control\x01\x7f.leaf')
         ask(f'show {form} {" ".join(damaged)}')
 
 
@@ -694,6 +738,9 @@ def compares():
         'komma,"blätter".leaf worked.linear-64.leaf',
     ]:
         ask(f'compare {line}')
+    ask('compare control\x01\x7f.leaf worked.linear-1.leaf', COMPARE_TOLD.replace('worked.exact.leaf', 'control??.leaf'))
+    ask('compare worked.exact.leaf d13-control\x01\x7f.leaf',
+        trouble('d13-control??.leaf: refused 13 cut leaf at byte 89, around it 00 00 00 04 5a 00 00 00 []'))
     ask('compare worked.exact.leaf frame-24.leaf', trouble('the frames differ, 12 and 24'))
     ask('compare none.linear-7.leaf worked.exact.leaf', trouble('the frames differ, 16777216 and 12'))
     ask('compare worked.linear-3.leaf two-rows.leaf', trouble('3 rows and 2'))
@@ -765,7 +812,8 @@ def check_tables():
 FORMS = [refused(number) for number in WORDS if number not in (SHORT_LIST, SHORT_BUFFER)] + [
     'misses    -', 'of 32 rows meet', '0 of 0 rows meet', '0.01 %', 'stands there, expected a number from 0 to 4294967295\n',
     'fields stand there, expected', 'stands there again', 'no heading', 'a task more', 'nothing stands there', 'no text',
-    'expected at least 1', 'less the jitter', 'is below the jitter', 'at most the period', 'at most 16777216', 'a divisor of the frame',
+    'expected at least 1', 'less the jitter', 'is below the jitter', 'leaves none of the deadline',
+    'at most the period', 'at most 16777216', 'a divisor of the frame',
     'expected --frame', 'no common multiple', 'expected --linear', 'expected --rank', 'the table has no row', 'at ranks 1, 3\n',
     'part nowhere', 'the frames differ', ' rows and ', 'misses points', 'status 1',
 ]

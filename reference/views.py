@@ -41,15 +41,18 @@ from refusals import (  # noqa: E402
 
 MOST_NUMBER = 4_294_967_295
 
-# The headings of a task table: those that must be there, and all.
+# The headings of a task table: those that must be there, all, and other words for them.
 NEEDED = ['work', 'deadline', 'period']
 HEADINGS = ['name', 'work', 'deadline', 'period', 'jitter']
+OTHER_WORDS = {'wcet': 'work', 'C': 'work', 'D': 'deadline', 'T': 'period', 'J': 'jitter'}
 
 BYTE_ORDER_MARK = b'\xef\xbb\xbf'
 BLANKS = ' \t'
 LINE_ENDS = '\r\n'
 
 MOST_TOLD = 40  # the characters of a field that are told
+
+MOST_COLUMNS = 720  # the columns to which the window of a picture is thinned
 
 
 class Trouble(Exception):
@@ -199,18 +202,22 @@ def is_number(field):
 
 
 def read_headings(line, fields):
-    """The headings of a table."""
+    """The headings of a table, each by the first of its words."""
+    headings = []
     for at, field in enumerate(fields):
         where = place(line, at + 1)
         check_text(field, where)
-        if field not in HEADINGS:
-            raise Trouble(f'{where}: {told_field(field)} stands there, expected name, work, deadline, period or jitter')
-        if field in fields[:at]:
+        heading = OTHER_WORDS.get(field, field)
+        if heading not in HEADINGS:
+            expected = 'name, work (wcet, C), deadline (D), period (T) or jitter (J)'
+            raise Trouble(f'{where}: {told_field(field)} stands there, expected {expected}')
+        if heading in headings:
             raise Trouble(f'{where}: "{field}" stands there again, expected each heading once')
+        headings.append(heading)
     for heading in NEEDED:
-        if heading not in fields:
+        if heading not in headings:
             raise Trouble(f'line {line}: no heading {heading} stands there, expected work, deadline and period')
-    return fields
+    return headings
 
 
 def refusal_of_large(heading, fields):
@@ -284,6 +291,8 @@ def no_window(task, frame):
         return None
     if deadline < jitter:
         expected = f'a work of at least 1 that fits: the deadline {deadline} is below the jitter {jitter}'
+    elif deadline == jitter:
+        expected = f'a work of at least 1 that fits: the jitter {jitter} leaves none of the deadline {deadline}'
     else:
         expected = f'at most {deadline - jitter}, the deadline {deadline} less the jitter {jitter}'
     return f'{task.where("work")}: {work} stands there, expected {expected}'
@@ -422,17 +431,40 @@ def file_lines(data, name, accuracy, frame=None):
 # --- plot and sheet ----------------------------------------------------------------------------------------
 
 
+def drawn_points(bound, row, above, first_rests):
+    """How many of the test points of a row are drawn by a bound, and how many there are.
+
+    The window is cut into columns of equal width. Drawn are the first test point of each, the end of the window, and of
+    each first rest the rest itself, the instant before it, and the test point at which testing stops.
+    """
+    last = window(row)
+    points = sorted({corner for other in above for corner in bound.corners_before(other, last)} | {last})
+    width = -(-last // MOST_COLUMNS)
+    drawn = {}
+    for point in points:
+        drawn.setdefault((point - 1) // width, point)
+    kept = set(drawn.values()) | {last}
+    for rest in first_rests:
+        kept |= {rest - 1, rest, next(point for point in points if point >= rest)}
+    return len(kept & set(points)), len(points)
+
+
 def plot_numbers(data, rank, accuracy, frame=None):
-    """The numbers that the picture of a row tells."""
+    """What the picture of a row tells in its description."""
     judged = Judged(data, accuracy, frame)
     if not judged.rows:
         raise Trouble(f'{refused(NO_RANK)}: the table has no row')
     if not 1 <= rank <= len(judged.rows):
         raise Trouble(f'{refused(NO_RANK)}: expected --rank from 1 to {len(judged.rows)}')
     told = [f'rank {rank}', f'window {window(judged.rows[rank - 1])}']
+    first_rests = []
     for words, bound in [('exact', EXACT_STEPS), (f'linear-{accuracy}', LINEAR_TAILS[accuracy])]:
         rest, points = survey(judged.frame, bound, judged.rows[:rank])[-1]
         told.append(f'{words} misses points {points}' if rest is None else f'{words} rest {rest} points {points}')
+        first_rests += [] if rest is None else [rest]
+    row, above = judged.rows[rank - 1], judged.rows[:rank - 1]
+    drawn, points = drawn_points(LINEAR_TAILS[accuracy], row, above, first_rests)
+    told.append(f'drawn {drawn} of {points} test points by the tail')
     return '; '.join(told) + '\n'
 
 
@@ -478,7 +510,7 @@ class Leaf:
 
     def damage(self):
         """The line that tells of the damage."""
-        return f'{self.name}: {refused(self.number)} at byte {self.place}, around it {self.around()}'
+        return f'{shown(self.name)}: {refused(self.number)} at byte {self.place}, around it {self.around()}'
 
     def bound_told(self):
         """The bound in words."""
@@ -498,7 +530,7 @@ def show_plain(leaves):
             told.append(leaf.damage() + '\n')
             continue
         lines = [[rank, *row, rest_told(rest), response, points] for rank, row, rest, response, points in leaf.counted()]
-        heading = f'{leaf.name}: {leaf.bound_told()}, frame {leaf.frame}, {len(leaf.rows)} rows\n'
+        heading = f'{shown(leaf.name)}: {leaf.bound_told()}, frame {leaf.frame}, {len(leaf.rows)} rows\n'
         told.append(heading + columns(SHOW_COLUMNS, lines))
     return '\n'.join(told)
 
@@ -590,7 +622,7 @@ def compare(a, b):
         verdicts = 'same' if same else 'part'
         rests = [rest_told(rest), rest_told(other_rest)]
         lines.append([rank, *row, *rests, later, points, other_points, verdicts])
-    told = f'A: {a.name}, {a.bound_told()}\nB: {b.name}, {b.bound_told()}\n'
+    told = f'A: {shown(a.name)}, {a.bound_told()}\nB: {shown(b.name)}, {b.bound_told()}\n'
     told += f'frame {a.frame}, {len(a.rows)} rows\n'
     told += columns(COMPARE_COLUMNS, lines)
     if not parted:

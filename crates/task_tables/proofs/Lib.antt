@@ -1,6 +1,13 @@
+pub mod Behind
 pub mod Decimals
 pub mod Distinct
+pub mod Fits
+pub mod Passed
 pub mod ReadRows
 pub mod Rows
 pub mod Named
 pub mod NoTables
+pub mod Taken
+pub mod Seen
+pub mod Tellings
+pub mod Texts

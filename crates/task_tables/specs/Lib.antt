@@ -1,8 +1,13 @@
+pub mod Printables
 pub mod Fields
 pub mod Forms
+pub mod Lines
+pub mod Ends
+pub mod Rows
 pub mod Columns
 pub mod Tasks
 pub mod Tables
 pub mod Misreads
 pub mod Explained
 pub mod Refusals
+pub mod Told

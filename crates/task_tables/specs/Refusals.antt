@@ -6,6 +6,7 @@ use Rattle.task_tables.specs.declared.errors.ReadError.{ReadError}
 use Rattle.task_tables.specs.declared.errors.ReadError.TheVariants.{Input, Memory, Misread}
 use Rattle.task_tables.specs.declared.tables.TaskTable.{TaskTable}
 use Rattle.task_tables.specs.Columns.{IsHeading}
+use Rattle.task_tables.specs.Rows.{Row}
 use Rattle.streams.specs.Held.{MayHold}
 use Rattle.task_tables.specs.Tables.{IsReadFrom, IsTable, table_columns, table_numbers}
 use Rattle.task_tables.specs.Tasks.{name_of, numbers_of}
@@ -20,14 +21,14 @@ is_misread (Memory e) = false
 abbrev pub AreNoHeading : List (List ℕ) → Type 0
 AreNoHeading headings = (columns : List Column) → ¬ (IsHeading headings columns)
 
--- a table cannot take the task of a record: it has 32, or the record lacks a number, or its name is no text
+-- a table cannot take the task of a row: it has 32, or the row lacks a number, or its name is no text
 abbrev pub CannotTake : TaskTable → List (List ℕ) → Type 0
 CannotTake t fields =
     (32 ≤ length (table_numbers t))
     ⊎ ((numbers_of (table_columns t) fields ≡ None) ⊎ (¬ (IsUtf8 (name_of (table_columns t) fields))))
 
 -- some rows are no table, whichever it may be
-abbrev pub AreNoTable : List (List (List ℕ)) → Type 0
+abbrev pub AreNoTable : List Row → Type 0
 AreNoTable rows = (t : TaskTable) → ¬ (IsTable rows t)
 
 -- no table can be read from some bytes

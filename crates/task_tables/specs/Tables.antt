@@ -1,14 +1,14 @@
 -- A table of tasks, and the text that it is read from.
-use Rattle.std.specs.Prelude.{◌≡◌, ℕ, ◌+◌, List, [], ◌∷◌, ◌++◌, map, filter, position, Option, None, Some, option_map}
+use Rattle.std.specs.Prelude.{◌≡◌, ℕ, ◌+◌, List, [], ◌∷◌, ◌++◌, map, position, Option, None, Some, option_map}
 use Rattle.std.specs.String.{string_bytes}
 use Rattle.csv.specs.Reading.{AreRecords, strip_bom}
 use Rattle.csv.specs.declared.parser.State.TheVariants as st
 use Rattle.rows.specs.declared.tasks.Numbers.{Numbers}
 use Rattle.task_tables.specs.declared.columns.Column.{Column}
-use Rattle.task_tables.specs.declared.forms.Form.{Form}
 use Rattle.task_tables.specs.declared.tables.TaskTable.{TaskTable}
 use Rattle.task_tables.specs.Columns.{IsHeading, is_column}
-use Rattle.task_tables.specs.Forms.{config_of, fields_in, form_of, says}
+use Rattle.task_tables.specs.Forms.{config_of, form_of}
+use Rattle.task_tables.specs.Rows.{Row, rows_in}
 use Rattle.task_tables.specs.Tasks.{name_of, numbers_of}
 use Rattle.streams.specs.Held.{MayHold}
 
@@ -32,37 +32,41 @@ table_lines t = t.lines.items
 abbrev pub field_of : List Column → Column → Option ℕ
 field_of columns c = option_map (λ k. k + 1) (position (is_column c) columns)
 
--- the task of a record stands behind those that a table had
-pub record Takes (old new : TaskTable) (fields : List (List ℕ)) : Type 0 where
+-- the task of a row stands behind those that a table had
+pub record Takes (old new : TaskTable) (row : Row) : Type 0 where
   pub columns : table_columns new ≡ table_columns old
   pub task : Numbers
-  pub reads : numbers_of (table_columns old) fields ≡ Some task
+  pub reads : numbers_of (table_columns old) row.fields ≡ Some task
   pub numbers : table_numbers new ≡ table_numbers old ++ task ∷ []
-  pub names : table_names new ≡ table_names old ++ name_of (table_columns old) fields ∷ []
+  pub names : table_names new ≡ table_names old ++ name_of (table_columns old) row.fields ∷ []
+  pub lines : table_lines new ≡ table_lines old ++ row.line ∷ []
 
 -- a table is what some rows say: the first is its heading, and each other is a task
-pub record IsTable (rows : List (List (List ℕ))) (t : TaskTable) : Type 0 where
-  pub headings : List (List ℕ)
-  pub tasks : List (List (List ℕ))
+pub record IsTable (rows : List Row) (t : TaskTable) : Type 0 where
+  pub headings : Row
+  pub tasks : List Row
   pub parts : rows ≡ headings ∷ tasks
-  pub heading : IsHeading headings (table_columns t)
-  pub numbers : map (numbers_of (table_columns t)) tasks ≡ map (λ n. Some n) (table_numbers t)
-  pub names : map (name_of (table_columns t)) tasks ≡ table_names t
+  pub heading : IsHeading headings.fields (table_columns t)
+  pub numbers : map (λ r. numbers_of (table_columns t) r.fields) tasks ≡ map (λ n. Some n) (table_numbers t)
+  pub names : map (λ r. name_of (table_columns t) r.fields) tasks ≡ table_names t
+  pub lines : map (λ r. r.line) tasks ≡ table_lines t
 
 -- the same where there is a table; else no row says anything
-abbrev pub AreRead : List (List (List ℕ)) → Option TaskTable → Type 0
+abbrev pub AreRead : List Row → Option TaskTable → Type 0
 AreRead rows None = rows ≡ []
 AreRead rows (Some t) = IsTable rows t
 
--- the rows of a text: of each record that says something, the fields that count
-abbrev pub rows_in : Form → List (List (List ℕ)) → List (List (List ℕ))
-rows_in form records = filter says (map (fields_in form) records)
-
--- a table is read from some bytes: it is what the rows of their records say
-pub record IsReadFrom (bytes : List ℕ) (t : TaskTable) : Type 0 where
+-- these are the rows of some bytes
+pub record AreRows (bytes : List ℕ) (rows : List Row) : Type 0 where
   pub records : List (List (List ℕ))
   pub are_records : AreRecords (config_of (form_of bytes)) st.StartRecord (strip_bom bytes) records
-  pub table : IsTable (rows_in (form_of bytes) records) t
+  pub rows_are : rows ≡ rows_in (form_of bytes) (strip_bom bytes) records
+
+-- a table is read from some bytes: it is what their rows say
+pub record IsReadFrom (bytes : List ℕ) (t : TaskTable) : Type 0 where
+  pub rows : List Row
+  pub are_rows : AreRows bytes rows
+  pub table : IsTable rows t
 
 -- a table is read from all that a reader held
 pub record ReadsAll (held : Option (List ℕ)) (t : TaskTable) : Type 0 where

@@ -1,14 +1,13 @@
 -- The task of a record, by the columns that the heading names.
-use Rattle.std.specs.Prelude.{◌≡◌, ℕ, ◌^◌, ◌<◌, ◌==◌, List, [], ◌∷◌, length, position, Option, None, Some, option_map, unwrap_or, decimal, if◌then◌else◌}
+use Rattle.std.specs.Prelude.{◌≡◌, ℕ, ◌^◌, ◌<◌, ◌==◌, Bool, List, [], ◌∷◌, length, position, Option, None, Some, is_some, option_map, unwrap_or, decimal, if◌then◌else◌}
 use Rattle.std.specs.List.{slice_get}
 use Rattle.std.specs.Option.{option_and_then}
+use Rattle.std.specs.Str.{is_utf8}
 use Rattle.rows.specs.declared.refusals.Refusal.{Refusal}
 use Rattle.rows.specs.declared.refusals.Refusal.TheVariants.{NoWindow, LateDeadline, LongPeriod}
 use Rattle.rows.specs.declared.tasks.Numbers.{Numbers}
 use Rattle.task_tables.specs.declared.columns.Column.{Column}
 use Rattle.task_tables.specs.declared.columns.Column.TheVariants.{Name, Work, Deadline, Period, Jitter}
-use Rattle.task_tables.specs.declared.misreads.Expected.{Expected}
-use Rattle.task_tables.specs.declared.misreads.Expected.TheVariants.{Number, Text}
 use Rattle.task_tables.specs.Columns.{has_column, is_column}
 use Rattle.numerals.specs.Numerals.{is_digits, number_of}
 
@@ -57,13 +56,13 @@ DecimalsRead =
     (n : Numbers) → n.work < 2 ^ 32 → n.deadline < 2 ^ 32 → n.period < 2 ^ 32 → n.jitter < 2 ^ 32
     → numbers_of four_columns (four_fields n) ≡ Some n
 
--- what is expected under a column
-abbrev pub expected_under : Column → Expected
-expected_under Name = Text
-expected_under Work = Number
-expected_under Deadline = Number
-expected_under Period = Number
-expected_under Jitter = Number
+-- a field can stand under a column
+abbrev pub fits : Column → List ℕ → Bool
+fits Name field = is_utf8 field
+fits Work field = is_some (number_of field)
+fits Deadline field = is_some (number_of field)
+fits Period field = is_some (number_of field)
+fits Jitter field = is_some (number_of field)
 
 -- the refusal whose condition holds where a whole number that is too large for 32 bits stands under a column
 abbrev pub refusal_under : List Column → List (List ℕ) → Column → Option Refusal

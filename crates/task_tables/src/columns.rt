@@ -1,7 +1,8 @@
 // The columns of a table, which its heading names.
-ghost use Rattle.std.specs.Prelude.{◌≡◌, ◌≢◌, ◌<◌, IfSome, MatchOption, length, position};
+ghost use Rattle.std.specs.Prelude.{◌≡◌, ◌<◌, IfSome, length, position};
+ghost use Rattle.std.specs.Str.{bytes_eq};
 ghost use Rattle.task_tables.specs.declared.columns.Column.{Column};
-ghost use Rattle.task_tables.specs.Columns.{has_column, heading_of, is_column};
+ghost use Rattle.task_tables.specs.Columns.{column_named, has_column, is_column, is_named};
 
 use std::fmt;
 
@@ -21,10 +22,8 @@ pub enum Column {
 }
 
 impl Column {
-    // The heading of the column.
-    pub(crate) fn heading(self) -> &'static str
-        ensures { result.now ≡ heading_of self }
-    {
+    // The heading by which the column is told.
+    fn heading(self) -> &'static str {
         match self {
             Column::Name => "name",
             Column::Work => "work",
@@ -41,21 +40,44 @@ impl Column {
         self as u8 == column as u8
     }
 
-    // The column that a heading names.
-    pub(crate) fn named(heading: &[u8]) -> Option<Column>
-        ensures { MatchOption result
-            ((column : Column) → heading_of column ≢ heading.now)
-            (λ column. heading_of column ≡ heading.now) }
+    // Whether a heading names the column.
+    fn is_named(self, heading: &[u8]) -> bool
+        ensures { result ≡ is_named self heading.now }
     {
-        match heading {
-            b"name" => Some(Column::Name),
-            b"work" => Some(Column::Work),
-            b"deadline" => Some(Column::Deadline),
-            b"period" => Some(Column::Period),
-            b"jitter" => Some(Column::Jitter),
-            _ => None,
+        match self {
+            Column::Name => is(heading, "name"),
+            Column::Work => is(heading, "work") || is(heading, "wcet") || is(heading, "C"),
+            Column::Deadline => is(heading, "deadline") || is(heading, "D"),
+            Column::Period => is(heading, "period") || is(heading, "T"),
+            Column::Jitter => is(heading, "jitter") || is(heading, "J"),
         }
     }
+
+    // The column that a heading names, if it names one.
+    pub(crate) fn named(heading: &[u8]) -> Option<Column>
+        ensures { result ≡ column_named heading.now }
+    {
+        if Column::Name.is_named(heading) {
+            Some(Column::Name)
+        } else if Column::Work.is_named(heading) {
+            Some(Column::Work)
+        } else if Column::Deadline.is_named(heading) {
+            Some(Column::Deadline)
+        } else if Column::Period.is_named(heading) {
+            Some(Column::Period)
+        } else if Column::Jitter.is_named(heading) {
+            Some(Column::Jitter)
+        } else {
+            None
+        }
+    }
+}
+
+// Whether a heading is a word.
+fn is(heading: &[u8], word: &str) -> bool
+    ensures { result ≡ bytes_eq heading.now word.now }
+{
+    heading == word.as_bytes()
 }
 
 // Whether a column is among some.

@@ -1,6 +1,7 @@
 // Why a text was not read as a table.
 ghost use Rattle.std.specs.Prelude.{◌≡◌, false};
 ghost use Rattle.task_tables.specs.Refusals.{is_misread};
+ghost use Rattle.task_tables.specs.declared.errors.ReadError.TheVariants as variant;
 
 use crate::misreads::Misread;
 use std::alloc::{AllocError, AllocFailed};
@@ -57,6 +58,8 @@ impl<T: Drop> From<AllocFailed<T>> for ReadError {
 }
 
 impl From<Misread> for ReadError {
+    ghost from_gives = { λ m e. e ≡ variant.Misread m };
+
     fn from(misread: Misread) -> ReadError {
         ReadError::Misread(misread)
     }

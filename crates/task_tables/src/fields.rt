@@ -1,10 +1,12 @@
-// Fields: their text without blanks around it.
+// Fields: their text without blanks around it, and whether they are text.
 ghost use Rattle.std.specs.Prelude.{◌≡◌, ◌≤◌, length};
 ghost use Rattle.std.specs.List.{prefix_len, suffix_len};
+ghost use Rattle.std.specs.Str.{is_utf8};
 ghost use Rattle.numerals.specs.Numerals.{is_blank};
 ghost use Rattle.task_tables.specs.Fields.{trimmed, without_end, without_front};
 
 use numerals::is_blank;
+use std::str;
 
 // How many blanks and tabs a field begins with.
 fn blanks_in_front(field: &[u8]) -> usize
@@ -37,6 +39,13 @@ fn without_end(field: &[u8]) -> &[u8]
 {
     let (field, _) = field.split_at(field.len() - blanks_at_end(field));
     field
+}
+
+// Whether the bytes of a field are text.
+pub(crate) fn is_text(field: &[u8]) -> bool
+    ensures { result ≡ is_utf8 field.now }
+{
+    str::from_utf8(field).is_ok()
 }
 
 // A field without blanks and tabs around it.

@@ -3,6 +3,7 @@
 #![tactic(auto)]
 
 mod columns;
+mod ends;
 mod errors;
 mod explaining;
 mod fields;
@@ -10,6 +11,7 @@ mod forms;
 mod headings;
 mod lines;
 mod misreads;
+mod printing;
 mod reading;
 mod records;
 mod tables;
@@ -20,5 +22,6 @@ mod words;
 pub use columns::Column;
 pub use errors::ReadError;
 pub use misreads::{Expected, Misread, Refused, Spot};
+pub use printing::Printable;
 pub use reading::read;
 pub use tables::TaskTable;

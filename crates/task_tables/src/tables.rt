@@ -1,6 +1,6 @@
 // A table of tasks as it was read: numbers and names, and where each stood.
-ghost use Rattle.std.specs.Prelude.{◌≡◌, ◌≤◌, ◌-◌, ◌++◌, ◌∷◌, [], length, vec_len, map, slice_get, slice_index_or, true, IfErr, IfOk, OnOk, Some};
-ghost use Rattle.task_tables.specs.Misreads.{TellsLine};
+ghost use Rattle.std.specs.Prelude.{◌≡◌, ◌≤◌, ◌-◌, ◌++◌, ◌∷◌, [], length, vec_len, map, None, slice_get, slice_index_or, true, IfErr, IfOk, OnOk, Some};
+ghost use Rattle.task_tables.specs.Misreads.{of_line, told_by};
 
 use crate::columns::{Column, place_of};
 use crate::errors::ReadError;
@@ -21,7 +21,10 @@ pub struct TaskTable {
 }
 
 impl TaskTable {
+    ghost use Rattle.task_tables.specs.Columns.{AreDistinct, has_numbers};
     ghost use Rattle.task_tables.specs.Refusals.{CannotTake, is_misread};
+    ghost use Rattle.task_tables.specs.Rows.{row_at};
+    ghost use Rattle.task_tables.specs.Told.{Tells, task_told};
     ghost use Rattle.task_tables.specs.Tables.{field_of, table_columns, table_lines, table_names, table_numbers, Takes};
 
     // A table without tasks, under a heading.
@@ -74,16 +77,20 @@ impl TaskTable {
     }
 
     // Takes the task of a record as the lowest rank.
+    #[tactic(auto, using(crate::proofs::Tellings::no_misread))]
     pub(crate) fn take(
         &mut self,
         alloc: Global,
         line: u64,
         fields: &[&[u8]],
     ) -> Result<(), ReadError>
-        ensures line { OnOk result (table_lines self.new ≡ table_lines self.old ++ line ∷ []) }
-        ensures task { OnOk result (Takes self.old self.new (map (λ f. f.now) fields.now)) }
+        ensures task { OnOk result (Takes self.old self.new (row_at line fields.now)) }
+        ensures none { OnOk result (AreDistinct (table_columns self.old)
+            → task_told (table_columns self.old) (length (table_numbers self.old)) (row_at line fields.now) ≡ None) }
         ensures refused { IfErr result (λ e.
             is_misread e ≡ true → CannotTake self.old (map (λ f. f.now) fields.now)) }
+        ensures told { IfErr result (λ e. has_numbers (table_columns self.old) ≡ true
+            → Tells (task_told (table_columns self.old) (length (table_numbers self.old)) (row_at line fields.now)) e) }
     {
         if self.numbers.len() >= MOST_ROWS {
             return Err(one_more(alloc, line)?.into());
@@ -103,7 +110,7 @@ impl TaskTable {
 // A task stands in a line behind as many as a table may have.
 fn one_more(alloc: Global, line: u64) -> Result<Misread, AllocError>
     ensures { IfOk result (λ m.
-        TellsLine m line (Expected.Tasks MOST_ROWS) (Some Refusal.FullTable)) }
+        told_by m ≡ Some (of_line line (Expected.Tasks MOST_ROWS) (Some Refusal.FullTable))) }
 {
     let stood = String::from_str(alloc, "a task more")?;
     let expected = Expected::Tasks(MOST_ROWS);

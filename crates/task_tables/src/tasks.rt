@@ -1,10 +1,14 @@
 // The task of a record, by the columns that the heading names.
-ghost use Rattle.std.specs.Prelude.{◌≡◌, map, option_map, IfOk, MatchOption};
+ghost use Rattle.std.specs.Prelude.{◌≡◌, Some, map, option_map, IfOk, MatchOption};
+ghost use Rattle.std.specs.Option.{option_or};
 ghost use Rattle.std.specs.Str.{IsUtf8};
-ghost use Rattle.task_tables.specs.Misreads.{TellsField};
-ghost use Rattle.task_tables.specs.Tasks.{expected_under, field_under, jitter_of, name_of, number_under, numbers_of, refusal_of};
+ghost use Rattle.task_tables.specs.Misreads.{expected_for, of_field, told_by};
+ghost use Rattle.task_tables.specs.Rows.{row_at};
+ghost use Rattle.task_tables.specs.Tasks.{field_under, fits, jitter_of, name_of, number_under, numbers_of, refusal_of};
+ghost use Rattle.task_tables.specs.Told.{count_told, misfit_told};
 
 use crate::columns::{Column, has, place_of};
+use crate::fields::is_text;
 use crate::misreads::{Expected, Misread, Place};
 use numerals::{is_digits, number};
 use rows::{Numbers, Refusal};
@@ -41,7 +45,8 @@ fn jitter(columns: &[Column], fields: &[&[u8]]) -> Option<u32>
 pub(crate) fn name<'a>(columns: &[Column], fields: &[&'a [u8]]) -> Option<&'a str>
     ensures { MatchOption result
         (¬ (IsUtf8 (name_of columns.now (map (λ f. f.now) fields.now))))
-        (λ name. name.now ≡ name_of columns.now (map (λ f. f.now) fields.now)) }
+        (λ name. (name.now ≡ name_of columns.now (map (λ f. f.now) fields.now))
+        × IsUtf8 (name_of columns.now (map (λ f. f.now) fields.now))) }
 {
     match field_under(columns, fields, Column::Name) {
         Some(field) => str::from_utf8(field).ok(),
@@ -65,9 +70,11 @@ pub(crate) fn numbers(columns: &[Column], fields: &[&[u8]]) -> Option<Numbers>
 }
 
 // Whether a field can stand under a column.
-fn fits(column: Column, field: &[u8]) -> bool {
+fn fits(column: Column, field: &[u8]) -> bool
+    ensures { result ≡ fits column field.now }
+{
     match column {
-        Column::Name => str::from_utf8(field).is_ok(),
+        Column::Name => is_text(field),
         _ => number(field).is_some(),
     }
 }
@@ -93,22 +100,25 @@ fn refusal(columns: &[Column], fields: &[&[u8]], column: Column, field: &[u8]) -
     }
 }
 
-// What of a record cannot be taken: the number of its fields, or else the leftmost field that cannot
-// stand under its column.
+// What of a record cannot be taken: the leftmost field that cannot stand under its column, or else the
+// number of its fields.
 pub(crate) fn misread(
     alloc: Global,
     line: u64,
     columns: &[Column],
     fields: &[&[u8]],
-) -> Result<Misread, AllocError> {
+) -> Result<Misread, AllocError>
+    ensures { IfOk result (λ m. told_by m ≡ option_or (misfit_told columns.now (row_at line fields.now))
+        (Some (count_told columns.now (row_at line fields.now)))) }
+{
     if fields.len() == columns.len() {
-        for (index, (column, field)) in columns.iter().zip(fields).enumerate() {
-            if !fits(*column, field) {
+        for (index, column) in columns.iter().enumerate() {
+            if !fits(*column, fields[index]) {
                 let place = Place {
                     line,
-                    field: index.saturating_add(1),
+                    field: index + 1,
                 };
-                return misread_field(alloc, place, *column, columns, fields, field);
+                return misfit(alloc, place, *column, columns, fields, fields[index]);
             }
         }
     }
@@ -118,7 +128,7 @@ pub(crate) fn misread(
 }
 
 // A field that cannot stand under its column.
-fn misread_field(
+fn misfit(
     alloc: Global,
     place: Place,
     column: Column,
@@ -126,13 +136,10 @@ fn misread_field(
     fields: &[&[u8]],
     field: &[u8],
 ) -> Result<Misread, AllocError>
-    ensures { IfOk result (λ m. TellsField m place (Some column) (expected_under column)
-        (refusal_of columns.now (map (λ f. f.now) fields.now) column field.now)) }
+    ensures { IfOk result (λ m. told_by m
+        ≡ Some (of_field place (Some column) (expected_for Expected.Number field.now)
+        (refusal_of columns.now (map (λ f. f.now) fields.now) column field.now))) }
 {
-    if matches!(column, Column::Name) {
-        let stood = String::from_str(alloc, "bytes that are no text")?;
-        return Ok(Misread::at(place, Some(column), stood, Expected::Text));
-    }
-    let misread = Misread::of_field(alloc, place, Some(column), field, Expected::Number)?;
+    let misread = Misread::of_bytes(alloc, place, Some(column), field, Expected::Number)?;
     Ok(misread.refused(refusal(columns, fields, column, field)))
 }

@@ -1,9 +1,11 @@
 // What cannot be taken, told.
-ghost use Rattle.std.specs.Prelude.{◌≡◌, None, IfOk};
-ghost use Rattle.task_tables.specs.Misreads.{refusal_told, TellsField, TellsLine};
+ghost use Rattle.std.specs.Prelude.{◌≡◌, None, Some, IfOk};
+ghost use Rattle.task_tables.specs.Misreads.{expected_for, of_field, of_line, refusal_told, told_by};
 
 use crate::columns::Column;
+use crate::fields::is_text;
 use crate::misreads::{Expected, Misread, Place, Refused, Spot};
+use crate::printing::printable_char;
 use rows::Refusal;
 use std::alloc::{AllocError, Global};
 
@@ -19,10 +21,28 @@ impl Misread {
         field: &[u8],
         expected: Expected,
     ) -> Result<Misread, AllocError>
-        ensures { IfOk result (λ m. TellsField m place column expected None) }
+        ensures { IfOk result (λ m. told_by m ≡ Some (of_field place column expected None)) }
     {
         let stood = quoted(alloc, field)?;
         Ok(Misread::at(place, column, stood, expected))
+    }
+
+    // A field in the place of which something is expected, told by its text, or that its bytes are none.
+    pub(crate) fn of_bytes(
+        alloc: Global,
+        place: Place,
+        column: Option<Column>,
+        field: &[u8],
+        expected: Expected,
+    ) -> Result<Misread, AllocError>
+        ensures { IfOk result (λ m.
+            told_by m ≡ Some (of_field place column (expected_for expected field.now) None)) }
+    {
+        if is_text(field) {
+            return Misread::of_field(alloc, place, column, field, expected);
+        }
+        let stood = String::from_str(alloc, "bytes that are no text")?;
+        Ok(Misread::at(place, column, stood, Expected::Text))
     }
 
     // A field that cannot be taken, told by these words.
@@ -32,7 +52,7 @@ impl Misread {
         stood: String,
         expected: Expected,
     ) -> Misread
-        ensures { TellsField result place column expected None }
+        ensures { told_by result ≡ Some (of_field place column expected None) }
     {
         Misread {
             spot: Some(Spot {
@@ -48,7 +68,7 @@ impl Misread {
 
     // A line that cannot be taken, told by these words.
     pub(crate) fn at_line(line: u64, stood: String, expected: Expected) -> Misread
-        ensures { TellsLine result line expected None }
+        ensures { told_by result ≡ Some (of_line line expected None) }
     {
         Misread {
             spot: Some(Spot {
@@ -77,21 +97,12 @@ impl Misread {
     }
 }
 
-// A character as it is told: a question mark for a control character.
-fn shown(character: char) -> char {
-    if character.is_ascii_control() {
-        '?'
-    } else {
-        character
-    }
-}
-
 // The text of a field between quotation marks: its first characters, and two dots for the others.
 fn quoted(alloc: Global, field: &[u8]) -> Result<String, AllocError> {
     let text = String::from_utf8_lossy(alloc, field)?;
     let mut quoted = String::from_str(alloc, "\"")?;
     for character in text.as_str().chars().take(MOST_CHARACTERS) {
-        quoted.push(shown(character))?;
+        quoted.push(printable_char(character))?;
     }
     if text.as_str().chars().count() > MOST_CHARACTERS {
         quoted.push_str("..")?;

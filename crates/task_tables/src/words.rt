@@ -8,7 +8,10 @@ impl Expected {
     fn words(self) -> (&'static str, Option<u64>) {
         match self {
             Expected::HeadingLine => ("a heading with work, deadline and period", None),
-            Expected::Heading => ("name, work, deadline, period or jitter", None),
+            Expected::Heading => (
+                "name, work (wcet, C), deadline (D), period (T) or jitter (J)",
+                None,
+            ),
             Expected::OtherHeading => ("each heading once", None),
             Expected::Headings => ("work, deadline and period", None),
             Expected::Fields(count) => ("", Some(count as u64)),
@@ -44,6 +47,10 @@ fn write_window<W: fmt::Write>(
     jitter: u32,
 ) -> fmt::Result {
     match deadline.checked_sub(jitter) {
+        Some(0) => write!(
+            f,
+            "a work of at least 1 that fits: the jitter {jitter} leaves none of the deadline {deadline}"
+        ),
         Some(most) => write!(
             f,
             "at most {most}, the deadline {deadline} less the jitter {jitter}"

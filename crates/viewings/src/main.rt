@@ -4,8 +4,8 @@
 //! A line of standard input is a command line, in words parted by blanks: `file TABLE --linear K
 //! [--frame H]`, `show [--csv or --json] LEAF ..`, `compare A B`, `plot TABLE --rank R --linear K
 //! [--frame H]`, `sheet TABLE [--linear K] [--frame H]` or `bench SCRIPT`. It is printed behind `=== `,
-//! and below it what it gives: of `file` the table and both leaves in hexadecimal, of `plot` the numbers
-//! that the picture tells, of `sheet` its bytes in hexadecimal, and of the others what is printed.
+//! and below it what it gives: of `file` the table and both leaves in hexadecimal, of `plot` the picture's
+//! description, of `sheet` its bytes in hexadecimal, and of the others what is printed.
 #![tactic(auto)]
 
 mod answers;

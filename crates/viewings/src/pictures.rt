@@ -5,13 +5,13 @@ ghost use Rattle.viewings.specs.Pictures.{IsTold};
 use anyhow::Context;
 use std::str;
 
-/// The numbers in the description of an SVG picture, up to how many points are drawn.
+/// The description of an SVG picture.
 pub(crate) fn told(picture: &[u8]) -> anyhow::Result<&str>
-    ensures { IfOk result (λ numbers. IsTold picture.now numbers.now) }
+    ensures { IfOk result (λ told. IsTold picture.now told.now) }
 {
     let text = str::from_utf8(picture)?;
     let (_, described) = around(text, "<desc>").context("no description")?;
-    let (told, _) = around(described, "; drawn").context("nothing is drawn")?;
+    let (told, _) = around(described, "</desc>").context("a description without an end")?;
     Ok(told)
 }
 

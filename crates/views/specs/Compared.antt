@@ -10,6 +10,7 @@ use Rattle.grids.specs.Aligned.{aligned_text}
 use Rattle.grids.specs.Cells.{Headings, Rows}
 use Rattle.grids.specs.Shown.{dash, shown_text}
 use Rattle.grids.specs.CsvFields.{headings_of}
+use Rattle.task_tables.specs.Printables.{printable_text}
 use Rattle.task_tables.specs.Tasks.{four_fields}
 use Rattle.views.specs.Cells.{rest_text}
 use Rattle.views.specs.Leaves.{HaveOneTable, HeldBoth}
@@ -56,9 +57,9 @@ abbrev pub first_compared : ℕ → Contents → Contents → List (List (List �
 first_compared zero c d = []
 first_compared (suc i) c d = first_compared i c d ++ compared_at (i + 1) c d ∷ []
 
--- the line of a leaf: a mark, its name and its bound
+-- the line of a leaf: a mark, its name as it is seen, and its bound
 abbrev pub named_line : List ℕ → List ℕ → Contents → List ℕ
-named_line mark name c = mark ++ (name ++ (codes ", " ++ (bound_text c.heading.bound ++ codes "\n")))
+named_line mark name c = mark ++ (printable_text name ++ (codes ", " ++ (bound_text c.heading.bound ++ codes "\n")))
 
 -- the line of the frame, with how many rows there are
 abbrev pub frame_line : Contents → List ℕ

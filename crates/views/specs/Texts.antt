@@ -9,6 +9,7 @@ use Rattle.leaves.specs.Contents.{Contents}
 use Rattle.grids.specs.Aligned.{aligned_text}
 use Rattle.grids.specs.Cells.{Headings, Rows}
 use Rattle.grids.specs.CsvFields.{headings_of}
+use Rattle.task_tables.specs.Printables.{printable_text}
 use Rattle.views.specs.Cells.{leaf_texts}
 use Rattle.views.specs.Ranked.{shown_rows, told_rows}
 
@@ -17,10 +18,10 @@ abbrev pub bound_text : Supplied → List ℕ
 bound_text ExactSteps = codes "exact steps"
 bound_text (LinearTail tail) = codes "linear tail of accuracy " ++ decimal (accuracy_of tail)
 
--- the line above a leaf: its name, its bound, its frame, and how many rows it has
+-- the line above a leaf: its name as it is seen, its bound, its frame, and how many rows it has
 abbrev pub leaf_head : List ℕ → Contents → List ℕ
 leaf_head name c =
-    name ++ (codes ": " ++ (bound_text c.heading.bound ++ (codes ", frame " ++ (decimal c.heading.frame
+    printable_text name ++ (codes ": " ++ (bound_text c.heading.bound ++ (codes ", frame " ++ (decimal c.heading.frame
     ++ (codes ", " ++ (decimal (length c.rows) ++ codes " rows\n"))))))
 
 -- the columns below it
@@ -37,10 +38,10 @@ pub record IsLeafText (name : List ℕ) (c : Contents) (text : List ℕ) : Type 
   pub told : shown_rows rows ≡ told_rows leaf_texts c
   pub parts : text ≡ leaf_head name c ++ aligned_text headings rows
 
--- the text of a damaged leaf: its name, the refusal, its place and the bytes around it
+-- the text of a damaged leaf: its name as it is seen, the refusal, its place and the bytes around it
 abbrev pub damage_text : List ℕ → Refusal → ℕ → List ℕ → List ℕ
 damage_text name refusal at around =
-    name ++ (codes ": refused " ++ (decimal (number refusal) ++ (codes " " ++ (words refusal
+    printable_text name ++ (codes ": refused " ++ (decimal (number refusal) ++ (codes " " ++ (words refusal
     ++ (codes " at byte " ++ (decimal at ++ (codes ", around it " ++ around)))))))
 
 -- a text with an empty line behind it, where there is one

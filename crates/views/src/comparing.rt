@@ -24,6 +24,7 @@ use reading::{Leaf, read};
 use rows::{Fault, Finding, Row, Verdict};
 use std::alloc::{AllocError, Global};
 use std::io::{Read, Write};
+use task_tables::Printable;
 
 // The columns of a comparison.
 const COLUMNS: [&str; 11] = [
@@ -178,7 +179,7 @@ fn named_line(alloc: Global, mark: &str, name: &str, leaf: &Leaf<'_>) -> Result<
     ensures { IfOk result (λ text. (c : Contents) → Holds leaf.now c →
         string_bytes text ≡ named_line mark.now name.now c) }
 {
-    let bound = BoundWords(leaf.heading().bound);
+    let (name, bound) = (Printable(name), BoundWords(leaf.heading().bound));
     format!(in alloc; "{mark}{name}, {bound}\n")
 }
 

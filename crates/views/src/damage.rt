@@ -5,6 +5,7 @@ ghost use Rattle.views.specs.Texts.{damage_text};
 use rows::Fault;
 use std::alloc::{AllocError, Global};
 use std::fmt;
+use task_tables::Printable;
 
 // So many bytes are shown before the place of a refusal, and so many after the one that stands there.
 const BEFORE: usize = 8;
@@ -66,7 +67,7 @@ impl fmt::Display for Damage {
     ghost output = { λ d. Some (damage_text (string_bytes d.name) d.fault.refusal d.fault.at (string_bytes d.around)) };
 
     fn fmt<W: fmt::Write>(&self, f: &mut fmt::Formatter<W>) -> fmt::Result {
-        let (name, around, at) = (&self.name, &self.around, self.fault.at);
+        let (name, around, at) = (Printable(&self.name), &self.around, self.fault.at);
         let number = self.fault.refusal.number();
         let words = self.fault.refusal.words();
         write!(

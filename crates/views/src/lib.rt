@@ -27,4 +27,5 @@ pub use drawing::plot;
 pub use layouts::Layout;
 pub use sheeting::sheet;
 pub use showing::Show;
+pub use task_tables::Printable;
 pub use troubles::Trouble;

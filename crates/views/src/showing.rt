@@ -25,6 +25,7 @@ use reading::{Leaf, read};
 use rows::{Finding, Row};
 use std::alloc::{AllocError, Global};
 use std::io::{Read, Write};
+use task_tables::Printable;
 
 // The columns of a leaf as a person reads it.
 const COLUMNS: [&str; 8] = [
@@ -223,6 +224,7 @@ fn leaf_head(alloc: Global, name: &str, leaf: &Leaf<'_>) -> Result<String, Alloc
 {
     let heading = leaf.heading();
     let (bound, frame, rows) = (BoundWords(heading.bound), heading.frame, leaf.len());
+    let name = Printable(name);
     format!(in alloc; "{name}: {bound}, frame {frame}, {rows} rows\n")
 }
 

@@ -1,9 +1,6 @@
 // What is told where something failed.
-ghost use Rattle.std.specs.Prelude.{◌≡◌, true, false};
-ghost use Rattle.std.specs.Char.{is_ascii_control};
-
-use std::fmt;
-use std::fmt::{Display, Write};
+use std::fmt::Display;
+use views::Printable;
 
 /// What was asked is not done, standard error says why, and the program is to end in this status.
 #[derive(Clone, Copy)]
@@ -17,34 +14,9 @@ pub(crate) const REFUSED: Failed = Failed { status: 1 };
 /// The command line is none.
 pub(crate) const MISUSED: Failed = Failed { status: 2 };
 
-/// A name as a complaint shows it, in one line.
-#[derive(Clone, Copy)]
-pub(crate) struct Shown<'a>(pub(crate) &'a str);
-
-impl Display for Shown<'_> {
-    fn fmt<W: Write>(&self, f: &mut fmt::Formatter<W>) -> fmt::Result {
-        for character in self.0.chars() {
-            f.write_char(printable(character))?;
-        }
-        Ok(())
-    }
-}
-
-// A character as it is shown: a question mark for a control character.
-fn printable(character: char) -> char
-    ensures control { is_ascii_control character ≡ true → result ≡ 63 }
-    ensures other { is_ascii_control character ≡ false → result ≡ character }
-{
-    if character.is_ascii_control() {
-        '?'
-    } else {
-        character
-    }
-}
-
 /// Tells on standard error what failed at a file or a stream of some name.
 pub(crate) fn complain<E: Display>(rt: &HostRuntime, name: &str, error: &E) -> Failed {
-    let name = Shown(name);
+    let name = Printable(name);
     let _ = eprintln!(rt; "yabreznul: {name}: {error}");
     REFUSED
 }

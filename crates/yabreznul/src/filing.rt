@@ -9,7 +9,7 @@ use clap::ArgMatches;
 use std::alloc::Global;
 use std::io;
 use std::io::Write;
-use views::{Counted, Counting, Trouble, count_table};
+use views::{Counted, Counting, Printable, Trouble, count_table};
 
 /// Counts a table twice, files both leaves, and prints the table.
 pub(crate) fn file(rt: &HostRuntime, given: &ArgMatches<'_>) -> Result<(), Failed> {
@@ -87,7 +87,7 @@ fn print_filed(rt: &HostRuntime, counted: &Counted, drafts: &[Draft]) -> Result<
 
 // Writes that a leaf is filed.
 fn write_filed(text: &mut Vec<u8>, draft: &Draft) -> io::Result<()> {
-    let name = draft.name();
+    let name = Printable(draft.name());
     let length = draft.length();
     writeln!(text, "filed {name}, {length} bytes")
 }

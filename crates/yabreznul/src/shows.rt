@@ -1,11 +1,11 @@
 // Leaves shown and compared.
-use crate::complaints::{Failed, REFUSED, Shown, complain, or_complain, out_of_memory};
+use crate::complaints::{Failed, REFUSED, complain, or_complain, out_of_memory};
 use crate::inputs::{Input, Source, open, open_or_complain};
 use crate::outputs::print;
 use crate::requests::{layout, leaves, source};
 use clap::ArgMatches;
 use std::alloc::Global;
-use views::{Show, Trouble};
+use views::{Printable, Show, Trouble};
 
 /// Prints what leaves hold, one after the other. A leaf that cannot be read or is damaged keeps none of the
 /// others from being printed, and the status is 1 in the end. Where memory runs out while a leaf is shown,
@@ -92,7 +92,7 @@ fn open_one(rt: &HostRuntime, names: &str, leaf: Source<'_>) -> Result<Input, Fa
     match open(rt, leaf) {
         Ok(input) => Ok(input),
         Err(error) => {
-            let name = Shown(leaf.name());
+            let name = Printable(leaf.name());
             Err(complain(rt, names, &format_args!("{name}: {error}")))
         }
     }
