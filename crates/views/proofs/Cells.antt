@@ -3,7 +3,7 @@ use Rattle.std.proofs.Common.{◌≡◌, ℕ, List, ◌++◌, map, Some, None, O
 use Rattle.std.proofs.lemmas.List.{map-append}
 use Rattle.rows.specs.declared.tasks.Numbers.{Numbers}
 use Rattle.rows.specs.Found.{Found}
-use Rattle.leaves.specs.declared.entries.HeadingNumbers.{HeadingNumbers}
+use Rattle.leaves.specs.declared.entries.Heading.{Heading}
 use Rattle.grids.specs.Cells.{IsText}
 use Rattle.grids.specs.Shown.{shown_of, shown_text}
 use Rattle.grids.specs.declared.cells.Cell.{Cell}
@@ -35,6 +35,6 @@ row_told rank n None points = refl
 row_told rank n (Some rest) points = refl
 
 -- and behind those of the heading they make a record
-pub record_told : (name : List ℕ) (h : HeadingNumbers) (rank : ℕ) (n : Numbers) (f : Found) (cells : List Cell) → map field_of cells ≡ heading_fields name h → map field_of (cells ++ row_cells rank n f) ≡ record_fields name h rank n f
+pub record_told : (name : List ℕ) (h : Heading) (rank : ℕ) (n : Numbers) (f : Found) (cells : List Cell) → map field_of cells ≡ heading_fields name h → map field_of (cells ++ row_cells rank n f) ≡ record_fields name h rank n f
 record_told name h rank n f cells heading =
     map-append field_of cells (row_cells rank n f) ∙ ap₂ (λ xs ys. xs ++ ys) heading (row_told rank n f.rest f.points)

@@ -1,11 +1,12 @@
 -- What rows and findings tell, as texts for people and as fields for programs.
-use Rattle.std.specs.Prelude.{ℕ, ◌+◌, ◌-◌, ◌==◌, List, [], ◌∷◌, ◌++◌, Option, decimal, codes, if◌then◌else◌}
+use Rattle.std.specs.Prelude.{ℕ, ◌+◌, ◌-◌, List, [], ◌∷◌, ◌++◌, Option, decimal, codes, if◌then◌else◌}
 use Rattle.std.specs.Option.{option_map, option_map_or, is_some}
 use Rattle.rows.specs.declared.tasks.Numbers.{Numbers}
 use Rattle.rows.specs.Found.{Found}
 use Rattle.brackets.specs.Counting.{gap}
 use Rattle.task_tables.specs.Tasks.{four_fields}
-use Rattle.leaves.specs.declared.entries.HeadingNumbers.{HeadingNumbers}
+use Rattle.bounds.specs.Families.{family_name, has_accuracies, supplied_plain}
+use Rattle.leaves.specs.declared.entries.Heading.{Heading}
 use Rattle.grids.specs.declared.cells.Cell.{Cell}
 use Rattle.grids.specs.declared.cells.Cell.TheVariants.{Nothing, Truth, Number}
 use Rattle.grids.specs.Shown.{dash, shown_text}
@@ -52,14 +53,14 @@ counted_texts rank name n exact bounded =
     ∷ rest_text bounded.rest ∷ number_text (gap exact.rest bounded.rest)
     ∷ decimal exact.points ∷ decimal bounded.points ∷ [])
 
--- what a program is told of a heading: the name of the leaf, no refusal, the words for the bound, the accuracy of a
--- linear tail, and the frame
-abbrev pub heading_fields : List ℕ → HeadingNumbers → List (List ℕ)
+-- what a program is told of a heading: the name of the leaf, no refusal, what bounds of its kind are called, the accuracy
+-- where there is one bound of the kind for each, and the frame
+abbrev pub heading_fields : List ℕ → Heading → List (List ℕ)
 heading_fields name h =
     name ∷ [] ∷ [] ∷ [] ∷ []
-    ∷ (if h.bound == 0 then codes "exact steps" else codes "linear tail")
-    ∷ (if h.bound == 0 then [] else decimal h.accuracy)
-    ∷ decimal h.frame ∷ []
+    ∷ family_name (supplied_plain h.bound).0
+    ∷ (if has_accuracies (supplied_plain h.bound).0 then decimal (supplied_plain h.bound).1 else [])
+    ∷ decimal h.frame.ticks ∷ []
 
 -- what a program is told of a row below its heading: its rank and numbers, whether it meets, the first rest, the
 -- response and the points tested
@@ -76,7 +77,7 @@ row_cells rank n f =
     ++ Truth (is_some f.rest) ∷ number_or_nothing f.rest ∷ number_or_nothing (response_of n f) ∷ Number f.points ∷ [])
 
 -- the record of a row: what is told of the heading, and then of the row
-abbrev pub record_fields : List ℕ → HeadingNumbers → ℕ → Numbers → Found → List (List ℕ)
+abbrev pub record_fields : List ℕ → Heading → ℕ → Numbers → Found → List (List ℕ)
 record_fields name h rank n f = heading_fields name h ++ row_fields rank n f
 
 -- the record of a damaged leaf: its name, the refusal by number and words, its place, and the bytes around the place

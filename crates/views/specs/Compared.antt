@@ -15,7 +15,7 @@ use Rattle.task_tables.specs.Tasks.{four_fields}
 use Rattle.views.specs.Cells.{rest_text}
 use Rattle.views.specs.Leaves.{HaveOneTable, HeldBoth}
 use Rattle.views.specs.Ranked.{shown_rows}
-use Rattle.views.specs.Texts.{bound_text}
+use Rattle.bounds.specs.Families.{shown_bound}
 
 -- how much later the second of two first rests is than the first, with a minus where it is earlier; a dash where one is
 -- missing
@@ -59,11 +59,11 @@ first_compared (suc i) c d = first_compared i c d ++ compared_at (i + 1) c d ∷
 
 -- the line of a leaf: a mark, its name as it is seen, and its bound
 abbrev pub named_line : List ℕ → List ℕ → Contents → List ℕ
-named_line mark name c = mark ++ (printable_text name ++ (codes ", " ++ (bound_text c.heading.bound ++ codes "\n")))
+named_line mark name c = mark ++ (printable_text name ++ (codes ", " ++ (shown_bound c.heading.bound ++ codes "\n")))
 
 -- the line of the frame, with how many rows there are
 abbrev pub frame_line : Contents → List ℕ
-frame_line c = codes "frame " ++ (decimal c.heading.frame ++ (codes ", " ++ (decimal (length c.rows) ++ codes " rows\n")))
+frame_line c = codes "frame " ++ (decimal c.heading.frame.ticks ++ (codes ", " ++ (decimal (length c.rows) ++ codes " rows\n")))
 
 -- the lines above: both leaves, and the frame
 abbrev pub compared_head : List ℕ → List ℕ → Contents → Contents → List ℕ

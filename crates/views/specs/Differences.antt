@@ -16,7 +16,7 @@ pub record IsFirstParted (rank : ℕ) (c d : Contents) : Type 0 where
 -- the first difference between the tables of two leaves: between the frames; else between how many rows there are; else
 -- between the rows of the first rank at which they are not the same
 abbrev pub Differ : Difference → Contents → Contents → Type 0
-Differ (Frames m n) c d = (c.heading.frame ≡ m) × (d.heading.frame ≡ n) × (m ≢ n)
+Differ (Frames m n) c d = (c.heading.frame.ticks ≡ m) × (d.heading.frame.ticks ≡ n) × (m ≢ n)
 Differ (Counts m n) c d =
     (c.heading.frame ≡ d.heading.frame) × (length c.rows ≡ m) × (length d.rows ≡ n) × (m ≢ n)
 Differ (Rows rank r s) c d =

@@ -8,7 +8,6 @@ use Rattle.rows.specs.Lists.{at_rank}
 use Rattle.rows.specs.declared.verdicts.Finding.{Finding}
 use Rattle.rows.specs.Found.{Found, tells}
 use Rattle.leaves.specs.Contents.{Contents}
-use Rattle.leaves.specs.Headings.{heading_plain}
 use Rattle.grids.specs.Cells.{Rows}
 use Rattle.grids.specs.Shown.{shown_of}
 use Rattle.grids.specs.CsvFields.{field_of}
@@ -42,5 +41,5 @@ StandsAt rank c None = 1 ≤ rank → length c.rows < rank
 -- the records of a leaf: one for each row, or the one that tells the heading where there is no row
 abbrev pub leaf_records : List ℕ → Contents → List (List (List ℕ))
 leaf_records name c =
-    if length c.rows == 0 then heading_fields name (heading_plain c.heading) ∷ []
-    else told_rows (record_fields name (heading_plain c.heading)) c
+    if length c.rows == 0 then heading_fields name c.heading ∷ []
+    else told_rows (record_fields name c.heading) c

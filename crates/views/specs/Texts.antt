@@ -2,9 +2,7 @@
 use Rattle.std.specs.Prelude.{◌≡◌, ℕ, ◌==◌, List, [], ◌∷◌, ◌++◌, length, codes, decimal, if◌then◌else◌}
 use Rattle.rows.specs.declared.refusals.Refusal.{Refusal}
 use Rattle.rows.specs.Refusals.{number, words}
-use Rattle.bounds.specs.declared.supplied.Supplied.{Supplied}
-use Rattle.bounds.specs.declared.supplied.Supplied.TheVariants.{ExactSteps, LinearTail}
-use Rattle.bounds.specs.Values.{accuracy_of}
+use Rattle.bounds.specs.Families.{shown_bound}
 use Rattle.leaves.specs.Contents.{Contents}
 use Rattle.grids.specs.Aligned.{aligned_text}
 use Rattle.grids.specs.Cells.{Headings, Rows}
@@ -13,15 +11,10 @@ use Rattle.task_tables.specs.Printables.{printable_text}
 use Rattle.views.specs.Cells.{leaf_texts}
 use Rattle.views.specs.Ranked.{shown_rows, told_rows}
 
--- the words for a bound
-abbrev pub bound_text : Supplied → List ℕ
-bound_text ExactSteps = codes "exact steps"
-bound_text (LinearTail tail) = codes "linear tail of accuracy " ++ decimal (accuracy_of tail)
-
 -- the line above a leaf: its name as it is seen, its bound, its frame, and how many rows it has
 abbrev pub leaf_head : List ℕ → Contents → List ℕ
 leaf_head name c =
-    printable_text name ++ (codes ": " ++ (bound_text c.heading.bound ++ (codes ", frame " ++ (decimal c.heading.frame
+    printable_text name ++ (codes ": " ++ (shown_bound c.heading.bound ++ (codes ", frame " ++ (decimal c.heading.frame.ticks
     ++ (codes ", " ++ (decimal (length c.rows) ++ codes " rows\n"))))))
 
 -- the columns below it

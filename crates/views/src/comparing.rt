@@ -12,7 +12,6 @@ ghost use Rattle.views.specs.Leaves.{name_of};
 ghost use Rattle.views.specs.Ranked.{shown_rows};
 ghost use Rattle.views.specs.Troubles.{Fails, IsTroubleOf, TellsDamage, TellsDifference, Writes, of_leaves};
 
-use crate::bound_words::BoundWords;
 use crate::damage::Damage;
 use crate::differences::first_difference;
 use crate::inputs::read_whole;
@@ -179,7 +178,7 @@ fn named_line(alloc: Global, mark: &str, name: &str, leaf: &Leaf<'_>) -> Result<
     ensures { IfOk result (λ text. (c : Contents) → Holds leaf.now c →
         string_bytes text ≡ named_line mark.now name.now c) }
 {
-    let (name, bound) = (Printable(name), BoundWords(leaf.heading().bound));
+    let (name, bound) = (Printable(name), leaf.heading().bound);
     format!(in alloc; "{mark}{name}, {bound}\n")
 }
 
@@ -187,7 +186,7 @@ fn named_line(alloc: Global, mark: &str, name: &str, leaf: &Leaf<'_>) -> Result<
 fn frame_line(alloc: Global, leaf: &Leaf<'_>) -> Result<String, AllocError>
     ensures { IfOk result (λ text. (c : Contents) → Holds leaf.now c → string_bytes text ≡ frame_line c) }
 {
-    let (frame, rows) = (leaf.heading().frame, leaf.len());
+    let (frame, rows) = (leaf.heading().frame.ticks, leaf.len());
     format!(in alloc; "frame {frame}, {rows} rows\n")
 }
 

@@ -32,7 +32,7 @@ pub(crate) fn first_difference(first: &Leaf<'_>, second: &Leaf<'_>) -> Option<Di
     ensures first { IfSome result (λ difference. (c d : Contents) → Holds first.now c → Holds second.now d →
         Differ difference c d) }
 {
-    let (one, other) = (first.heading().frame, second.heading().frame);
+    let (one, other) = (first.heading().frame.ticks, second.heading().frame.ticks);
     if one != other {
         return Some(Difference::Frames(one, other));
     }

@@ -2,7 +2,6 @@
 //! `yabreznul`).
 #![tactic(auto)]
 
-mod bound_words;
 mod comparing;
 mod counted;
 mod damage;

@@ -3,13 +3,11 @@ ghost use Rattle.std.specs.Prelude.{◌≡◌, ◌++◌, map, string_bytes, IfOk
 ghost use Rattle.rows.specs.Judging.{plain};
 ghost use Rattle.rows.specs.Refusals.{number, words};
 ghost use Rattle.rows.specs.Found.{tells};
-ghost use Rattle.leaves.specs.Headings.{heading_plain};
 ghost use Rattle.grids.specs.CsvFields.{field_of};
 ghost use Rattle.views.specs.Cells.{damage_fields, heading_fields, record_fields, row_cells};
 
 use crate::damage::Damage;
 use crate::leaf_cells::{cell, first_rest, number_cell, push_row};
-use bounds::{Bound, Supplied};
 use grids::Cell;
 use leaves::Heading;
 use rows::{Finding, Row};
@@ -63,11 +61,13 @@ pub(crate) fn heading_record(
     name: &str,
     heading: Heading,
 ) -> Result<Vec<Cell>, AllocError>
-    ensures { IfOk result (λ cells. map field_of cells.items ≡ heading_fields name.now (heading_plain heading)) }
+    ensures { IfOk result (λ cells. map field_of cells.items ≡ heading_fields name.now heading) }
 {
-    let (words, accuracy) = match heading.bound {
-        Supplied::ExactSteps => ("exact steps", Cell::Nothing),
-        Supplied::LinearTail(tail) => ("linear tail", cell(tail.accuracy())),
+    let (kind, accuracy) = heading.bound.plain();
+    let accuracy = if kind.has_accuracies() {
+        cell(accuracy)
+    } else {
+        Cell::Nothing
     };
     Ok(vec![in alloc;
         Cell::of_text(alloc, name)?,
@@ -75,9 +75,9 @@ pub(crate) fn heading_record(
         Cell::Nothing,
         Cell::Nothing,
         Cell::Nothing,
-        Cell::of_text(alloc, words)?,
+        Cell::of_text(alloc, kind.name())?,
         accuracy,
-        cell(heading.frame),
+        cell(heading.frame.ticks),
     ]?)
 }
 
@@ -92,7 +92,7 @@ pub(crate) fn row_record(
     finding: &Finding,
 ) -> Result<Vec<Cell>, AllocError>
     ensures { IfOk result (λ cells. map field_of cells.items
-        ≡ record_fields name.now (heading_plain heading) rank (plain row.now) (tells finding.now)) }
+        ≡ record_fields name.now heading rank (plain row.now) (tells finding.now)) }
 {
     let mut cells = heading_record(alloc, name, heading)?;
     push_found(&mut cells, rank, row, finding)?;

@@ -2,7 +2,6 @@
 ghost use Rattle.std.specs.Prelude.{◌≡◌, ◌++◌, ◌∷◌, [], string_bytes, IfOk, OnOk, IfErr};
 ghost use Rattle.rows.specs.Refusals.{number, words};
 ghost use Rattle.leaves.specs.Contents.{Contents};
-ghost use Rattle.leaves.specs.Headings.{heading_plain};
 ghost use Rattle.reading.specs.Leaves.{Holds};
 ghost use Rattle.grids.specs.CsvFields.{headings_of};
 ghost use Rattle.views.specs.Added.{Adds, AddsHeld, GrowBy, GrowsRecords, GrowsText, IsCsvOf, IsDamageLine, IsShown, KeepsSetup, field_names, layout_of, shown_headings, shown_records, shown_text};
@@ -12,7 +11,6 @@ ghost use Rattle.views.specs.Ranked.{StandsAt, field_rows, leaf_records, shown_r
 ghost use Rattle.views.specs.Texts.{IsLeafText, leaf_columns, leaf_head, parted};
 ghost use Rattle.views.specs.Troubles.{Fails, IsTroubleOf, Writes, of_leaf, of_nothing};
 
-use crate::bound_words::BoundWords;
 use crate::damage::Damage;
 use crate::inputs::read_whole;
 use crate::layouts::Layout;
@@ -223,7 +221,7 @@ fn leaf_head(alloc: Global, name: &str, leaf: &Leaf<'_>) -> Result<String, Alloc
     ensures { IfOk result (λ text. (c : Contents) → Holds leaf.now c → string_bytes text ≡ leaf_head name.now c) }
 {
     let heading = leaf.heading();
-    let (bound, frame, rows) = (BoundWords(heading.bound), heading.frame, leaf.len());
+    let (bound, frame, rows) = (heading.bound, heading.frame.ticks, leaf.len());
     let name = Printable(name);
     format!(in alloc; "{name}: {bound}, frame {frame}, {rows} rows\n")
 }
@@ -260,7 +258,7 @@ fn push_records(
     leaf: &Leaf<'_>,
 ) -> Result<(), AllocError>
     ensures { OnOk result ((c : Contents) → Holds leaf.now c → field_rows records.new.items
-        ≡ field_rows records.old.items ++ told_rows (record_fields name.now (heading_plain c.heading)) c) }
+        ≡ field_rows records.old.items ++ told_rows (record_fields name.now c.heading) c) }
 {
     let heading = leaf.heading();
     for i in 0..leaf.len() {
