@@ -11,7 +11,6 @@ use Rattle.bounds.specs.Values.{meaning_of}
 use Rattle.bounds.specs.Lemmas.SuppliedLaws.{laws_of}
 use Rattle.findings.proofs.Tables.{table_says}
 use Rattle.rows.proofs.SameFinding.{same_findings}
-use Rattle.leaves.proofs.Filing.{framed}
 use Rattle.leaves.specs.declared.entries.Entry.TheVariants.{Finding as finding, End as end}
 use Rattle.leaves.specs.Contents.{Contents, bytes_of, IsLawful as IsLawfulLeaf}
 use Rattle.leaves.specs.Entries.{entry_bytes}
@@ -19,12 +18,12 @@ use Rattle.reading.proofs.Once.{again}
 use Rattle.writing.proofs.Leaves.{encoding_length}
 use Rattle.sheets.specs.Answers.{Answers, AnswersOnce, answer_bytes, most_answer, IsPut, IsLeafOf}
 use Rattle.sheets.specs.Surveying.{IsSurveyOf, SurveySays}
-use Rattle.sheets.specs.Tables.{Table, table, IsLawful, sheet_bytes, sheet_entries}
+use Rattle.sheets.specs.Tables.{OnSheet, on_sheet, IsLawful, sheet_bytes, sheet_entries}
 use Rattle.sheets.proofs.Leaves.{leaf_of, leaf_lawful}
 use Rattle.sheets.proofs.Once.{fits_once}
 
 -- the surveys of one table are one
-same_survey : (t u : Table) (c d : Contents) → t ≡ u → IsSurveyOf t c → IsSurveyOf u d → c ≡ d
+same_survey : (t u : OnSheet) (c d : Contents) → t ≡ u → IsSurveyOf t c → IsSurveyOf u d → c ≡ d
 same_survey t u c d is survey also =
     let v = subst (λ x. IsSurveyOf x d) (sym is) also in
     let head = survey.heading ∙ sym v.heading in
@@ -43,7 +42,7 @@ answers_once bytes (refuses n at) (gives c) refused (t, fits, survey) = let same
 answers_once bytes (refuses n at) (refuses m to) refused also = again n at m to (fits_once bytes (refuses n at) (refuses m to) refused also)
 
 -- a survey of a lawful table is a lawful leaf
-survey_lawful : (t : Table) (c : Contents) → IsLawful t → IsSurveyOf t c → IsLawfulLeaf c
+survey_lawful : (t : OnSheet) (c : Contents) → IsLawful t → IsSurveyOf t c → IsLawfulLeaf c
 survey_lawful t c lawful survey =
     let is : leaf_of t c.findings ≡ c = (λ i. record { heading = sym survey.heading i; rows = sym survey.rows i; findings = c.findings }) in
     subst IsLawfulLeaf is (leaf_lawful t c.findings lawful survey.findings)
@@ -65,11 +64,11 @@ put_with_room a old new r room put = by r (put.told ∙ passes_on (ltb (length o
 -- what answers a sheet is its leaf
 pub answered_leaf : (bytes : List ℕ) (c : Contents) → Answers bytes (gives c) → IsLeafOf bytes c
 answered_leaf bytes c (t, fits, survey) =
-    let is : table c.heading c.rows ≡ t = ap₂ table survey.heading survey.rows in
+    let is : on_sheet c.heading c.rows ≡ t = ap₂ on_sheet survey.heading survey.rows in
     let h = t.heading in
     record {
       accepted = (survey_lawful t c fits.0 survey, refl);
       more = bytes_of (map finding c.findings ++ end (1 + length c.rows + length c.findings) ∷ []);
-      begins = flat_map-append entry_bytes (sheet_entries (table c.heading c.rows)) (map finding c.findings ++ end (1 + length c.rows + length c.findings) ∷ []) ∙ ap (λ xs. xs ++ bytes_of (map finding c.findings ++ end (1 + length c.rows + length c.findings) ∷ [])) (ap sheet_bytes is ∙ sym fits.1);
-      says = subst SurveySays (sym is) (table_says (meaning_of h.bound) h.frame t.rows (laws_of h.bound) (record { frame = framed h; on = fits.0.on }));
+      begins = flat_map-append entry_bytes (sheet_entries (on_sheet c.heading c.rows)) (map finding c.findings ++ end (1 + length c.rows + length c.findings) ∷ []) ∙ ap (λ xs. xs ++ bytes_of (map finding c.findings ++ end (1 + length c.rows + length c.findings) ∷ [])) (ap sheet_bytes is ∙ sym fits.1);
+      says = subst SurveySays (sym is) (table_says (meaning_of h.bound) h.frame t.rows (laws_of h.bound) (record { frame = h.framed.ticks; on = fits.0.on }));
     }

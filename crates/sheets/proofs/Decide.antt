@@ -5,6 +5,8 @@ use Rattle.std.proofs.lemmas.List.{append_assoc, get_or_append_left, length-appe
 use Rattle.rows.specs.declared.refusals.Refusal.{Refusal}
 use Rattle.rows.specs.declared.refusals.Refusal.TheVariants.{FullTable}
 use Rattle.rows.specs.Answers.{Answer, gives, refuses, refuses_at, first_refusal}
+use Rattle.rows.specs.declared.frames.FrameNumbers.{FrameNumbers}
+use Rattle.rows.specs.Frames.{frame_of}
 use Rattle.rows.specs.Judging.{flaw_checks, frame_flaws}
 use Rattle.rows.specs.Times.{most_rows}
 use Rattle.leaves.specs.declared.entries.Heading.{Heading}
@@ -20,7 +22,7 @@ use Rattle.reading.specs.Checks.{next_checks, heading_entry_checks, row_entry_ch
 use Rattle.reading.proofs.Ranks.{rows_length}
 use Rattle.sheets.specs.Answers.{Answers, deciding, FirstDecide}
 use Rattle.sheets.specs.Reading.{row_checks, phase_after, IsRefusedAt, before_heading, in_rows}
-use Rattle.sheets.specs.Tables.{Table, sheet_bytes}
+use Rattle.sheets.specs.Tables.{OnSheet, sheet_bytes}
 
 module _ (body more : List ℕ) where
   -- a number is the same with more bytes behind it
@@ -38,7 +40,7 @@ module _ (body more : List ℕ) where
       let frame = number_stays 0 (omega arith) in
       let bound = get_or_append_left body more 0 4 (omega arith) in
       let accuracy = get_or_append_left body more 0 5 (omega arith) in
-      λ i. record { frame = frame i; bound = bound i; accuracy = accuracy i }
+      λ i. record { frame = frame_of (frame i); bound = bound i; accuracy = accuracy i }
 
   row_stays : row_size ≤ length body → row_fields (body ++ more) ≡ row_fields body
   row_stays whole =
@@ -55,7 +57,7 @@ module _ (body more : List ℕ) where
       ∙ ap (λ n. first_refusal (heading_checks n at)) (heading_stays whole)
       ∙ sym (uncut heading_size at body _ whole)
 
-  row_checks_stay : (h n at : ℕ) → row_size ≤ length body → first_refusal (row_entry_checks h n at (body ++ more)) ≡ first_refusal (row_entry_checks h n at body)
+  row_checks_stay : (h : FrameNumbers) (n at : ℕ) → row_size ≤ length body → first_refusal (row_entry_checks h n at (body ++ more)) ≡ first_refusal (row_entry_checks h n at body)
   row_checks_stay h n at whole =
       ap (refuses_at FullTable (if leb most_rows n then Some at else None))
       (uncut row_size at (body ++ more) _ (omega (arith, length-append body more))
@@ -87,7 +89,7 @@ rows_stay h n k body more room = at (eqb k letter_R) refl
         other_stays false is = rw (is, other) refl
 
 -- the sheet of a table is as long as its number of rows says
-sheet_length : (t : Table) → length (sheet_bytes t) ≡ row_place (length t.rows)
+sheet_length : (t : OnSheet) → length (sheet_bytes t) ≡ row_place (length t.rows)
 sheet_length t = omega (arith, length-append (entry_bytes (heading t.heading)) (bytes_of (map row t.rows)), rows_length t.rows)
 
 -- a refusal of so many bytes as decide is that of more bytes

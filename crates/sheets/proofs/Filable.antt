@@ -4,6 +4,7 @@ use Rattle.std.specs.Prelude.{MatchOption}
 use Rattle.std.specs.List.{All, AllPass}
 use Rattle.std.proofs.lemmas.List.Elements.{All-append, All-cons, All-head, All-nil, All-tail}
 use Rattle.std.proofs.lemmas.Bool.{and_from, and_parts, le-leb, eq-eqb, ne_eqb, not_from_true, or_from, or_left}
+use Rattle.rows.specs.declared.frames.FrameNumbers.{FrameNumbers}
 use Rattle.rows.specs.declared.tasks.Row.{Row}
 use Rattle.rows.specs.Counting.{is_on_frame, window}
 use Rattle.rows.specs.Times.{horizon, is_frame}
@@ -49,17 +50,17 @@ says_filable l last f low near says =
     in_range Misses none = refl
     in_range (Meets t) first = and_from (leb 1 t) (leb t horizon) (le-leb 1 t (omega (arith, first.after))) (le-leb t horizon (omega (arith, first.within)))
 
-module _ (m : Meaning) (h : ℕ) (laws : Laws m) (frame : is_frame h ≡ true) where
+module _ (m : Meaning) (h : FrameNumbers) (laws : Laws m) (frame : is_frame h.ticks ≡ true) where
   -- so can the findings of a table whose rows stand on its frame
-  filable_below : (above rows : List Row) (fs : List Finding) → AllPass (is_on_frame h) above → AllPass (is_on_frame h) rows → map tells fs ≡ findings_below m h above rows → All IsFilable fs
+  filable_below : (above rows : List Row) (fs : List Finding) → AllPass (is_on_frame h.ticks) above → AllPass (is_on_frame h.ticks) rows → map tells fs ≡ findings_below m h above rows → All IsFilable fs
   filable_below above rows [] on stand found = All-nil IsFilable
   filable_below above [] (f ∷ fs) on stand found = cc
   filable_below above (r ∷ rows) (f ∷ fs) on stand found =
       let here : tells f ≡ row_finding m h r above = ap (λ xs. get_or xs 0 (tells f)) found in
-      let says = finding_says (load m h r.work above) (window r) laws (record { frame = frame; on = on }) r.busy (omega (arith, r.busy, r.roomy)) in
-      let first = says_filable (load m h r.work above) (window r) f (omega (arith, r.busy, r.roomy)) (omega (arith, r.timely, r.near)) (subst (Says (load m h r.work above) (window r)) (sym here) says) in
-      let one = All-cons (λ s. is_on_frame h s ≡ true) r [] (All-head (λ s. is_on_frame h s ≡ true) r rows stand) (All-nil (λ s. is_on_frame h s ≡ true)) in
-      All-cons IsFilable f fs first (filable_below (above ++ r ∷ []) rows fs (All-append (λ s. is_on_frame h s ≡ true) above (r ∷ []) on one) (All-tail (λ s. is_on_frame h s ≡ true) r rows stand) (ap (drop 1) found))
+      let says = finding_says (load m h.ticks r.work above) (window r) laws (record { frame = frame; on = on }) r.busy (omega (arith, r.busy, r.roomy)) in
+      let first = says_filable (load m h.ticks r.work above) (window r) f (omega (arith, r.busy, r.roomy)) (omega (arith, r.timely, r.near)) (subst (Says (load m h.ticks r.work above) (window r)) (sym here) says) in
+      let one = All-cons (λ s. is_on_frame h.ticks s ≡ true) r [] (All-head (λ s. is_on_frame h.ticks s ≡ true) r rows stand) (All-nil (λ s. is_on_frame h.ticks s ≡ true)) in
+      All-cons IsFilable f fs first (filable_below (above ++ r ∷ []) rows fs (All-append (λ s. is_on_frame h.ticks s ≡ true) above (r ∷ []) on one) (All-tail (λ s. is_on_frame h.ticks s ≡ true) r rows stand) (ap (drop 1) found))
 
-  pub all_filable : (rows : List Row) (fs : List Finding) → AllPass (is_on_frame h) rows → map tells fs ≡ findings_of m h rows → All IsFilable fs
-  all_filable rows fs stand found = filable_below [] rows fs (All-nil (λ s. is_on_frame h s ≡ true)) stand found
+  pub all_filable : (rows : List Row) (fs : List Finding) → AllPass (is_on_frame h.ticks) rows → map tells fs ≡ findings_of m h rows → All IsFilable fs
+  all_filable rows fs stand found = filable_below [] rows fs (All-nil (λ s. is_on_frame h.ticks s ≡ true)) stand found

@@ -4,19 +4,20 @@ use Rattle.rows.specs.declared.refusals.Refusal.TheVariants.{ShortBuffer}
 use Rattle.rows.specs.declared.refusals.Fault.{Fault}
 use Rattle.rows.specs.Answers.{Answer, gives, refuses, answer, Check, check, checked}
 use Rattle.rows.specs.Lists.{written}
+use Rattle.rows.specs.Refusals.{number}
 use Rattle.rows.specs.Times.{most_rows}
 use Rattle.leaves.specs.Bytes.{four}
 use Rattle.leaves.specs.Contents.{Contents, encoding}
 use Rattle.leaves.specs.Entries.{row_place, leaf_length}
 use Rattle.reading.specs.Whole.{Fits as IsReadAs}
-use Rattle.sheets.specs.Tables.{Table, table}
+use Rattle.sheets.specs.Tables.{OnSheet, on_sheet}
 use Rattle.sheets.specs.Reading.{Fits}
 use Rattle.sheets.specs.Surveying.{IsSurveyOf, SurveySays}
 
 -- contents answer bytes that are the sheet of a table, of which they are the survey; a refusal answers bytes that are
 -- no sheet and are refused so
 abbrev pub Answers : List ℕ → Answer Contents → Type 0
-Answers bytes (gives c) = (t : Table) × Fits bytes (gives t) × IsSurveyOf t c
+Answers bytes (gives c) = (t : OnSheet) × Fits bytes (gives t) × IsSurveyOf t c
 Answers bytes (refuses number at) = Fits bytes (refuses number at)
 
 -- at most one answer answers
@@ -30,7 +31,7 @@ letter_X = 88
 -- the bytes of an answer: those of the leaf; or X, the number of the refusal and its place
 abbrev pub answer_bytes : Answer Contents → List ℕ
 answer_bytes (gives c) = encoding c
-answer_bytes (refuses number at) = letter_X ∷ number ∷ four at
+answer_bytes (refuses refusal at) = letter_X ∷ number refusal ∷ four at
 
 -- no answer is longer than the leaf of a full table
 abbrev pub most_answer : ℕ
@@ -64,4 +65,4 @@ pub record IsLeafOf (bytes : List ℕ) (c : Contents) : Type 0 where
   pub accepted : IsReadAs (answer_bytes (gives c)) (gives c)
   pub more : List ℕ
   pub begins : answer_bytes (gives c) ≡ bytes ++ more
-  pub says : SurveySays (table c.heading c.rows)
+  pub says : SurveySays (on_sheet c.heading c.rows)

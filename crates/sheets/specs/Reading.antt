@@ -8,10 +8,10 @@ use Rattle.reading.specs.declared.phases.Phase.{Phase}
 use Rattle.reading.specs.declared.phases.Phase.TheVariants.{Opening, Rows}
 use Rattle.reading.specs.Checks.{next_checks}
 use Rattle.reading.specs.Phases.{place_of}
-use Rattle.sheets.specs.Tables.{Table, IsLawful, sheet_bytes}
+use Rattle.sheets.specs.Tables.{OnSheet, IsLawful, sheet_bytes}
 
 -- the phase of a reader after the sheet of a table
-abbrev pub phase_after : Table → Phase
+abbrev pub phase_after : OnSheet → Phase
 phase_after t = Rows t.heading (length t.rows)
 
 -- what is checked in the rows of a sheet, of the bytes that are left: nothing where none is, for a sheet may end there;
@@ -26,14 +26,14 @@ row_checks p (k ∷ body) =
 -- after the sheet of some lawful table
 pub data IsRefusedAt (bytes : List ℕ) (number : Refusal) (at : ℕ) : Type 0 where
   before_heading : first_refusal (next_checks Opening 0 bytes) ≡ refuses number at → IsRefusedAt bytes number at
-  in_rows : (t : Table) (left : List ℕ) → IsLawful t → bytes ≡ sheet_bytes t ++ left
+  in_rows : (t : OnSheet) (left : List ℕ) → IsLawful t → bytes ≡ sheet_bytes t ++ left
       → first_refusal (row_checks (phase_after t) left) ≡ refuses number at → IsRefusedAt bytes number at
 
 -- a table fits: it is lawful, and the bytes are its sheet
-abbrev pub Fits : List ℕ → Answer Table → Type 0
+abbrev pub Fits : List ℕ → Answer OnSheet → Type 0
 Fits bytes (gives t) = IsLawful t × (bytes ≡ sheet_bytes t)
 Fits bytes (refuses number at) = IsRefusedAt bytes number at
 
 -- at most one answer fits
 abbrev pub FitsOnce : Type 0
-FitsOnce = (bytes : List ℕ) (a b : Answer Table) → Fits bytes a → Fits bytes b → a ≡ b
+FitsOnce = (bytes : List ℕ) (a b : Answer OnSheet) → Fits bytes a → Fits bytes b → a ≡ b

@@ -9,7 +9,7 @@ ghost use Rattle.sheets.specs.Surveying.{IsSurveyOf};
 use crate::reading_sheets::read;
 use crate::sheets::Sheet;
 use leaves::{END_SIZE, FINDING_SIZE, HEADING_SIZE, ROW_SIZE};
-use rows::{Fault, Finding, MOST_ROWS, Refusal, Verdict};
+use rows::{Fault, Finding, MOST_ROWS, Refusal};
 use writing::file;
 
 /// How many bytes the sheet of a full table has; none is longer.
@@ -51,11 +51,8 @@ fn file_survey(sheet: &Sheet, buffer: &mut [u8]) -> Result<usize, Fault>
     ensures { (c : Contents) × IsSurveyOf sheet.now c
         × IsPut (gives c) buffer.old buffer.new result }
 {
-    let mut list = [Finding {
-        verdict: Verdict::Misses,
-        points: 0,
-    }; MOST_ROWS];
-    let heading = sheet.heading().numbers();
+    let mut list = [Finding::default(); MOST_ROWS];
+    let heading = sheet.heading();
     let count = sheet.survey(&mut list)?;
     file(heading, sheet.rows(), &list[..count], buffer)
 }

@@ -1,6 +1,5 @@
 use Rattle.std.proofs.Common.{subst, arith}
 use Rattle.rows.specs.Answers.{gives, refuses}
-use Rattle.rows.specs.Refusals.{number}
 use Rattle.sheets.specs.Answers.{Answers, IsPut}
 use Rattle.sheets.proofs.Answered.{answers_once, answer_length, put_with_room, answered_leaf}
 use Rattle.sheets.proofs.Decide.{first_decide}
