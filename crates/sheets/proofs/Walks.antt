@@ -8,7 +8,8 @@ use Rattle.rows.specs.Answers.{gives, refuses, first_refusal}
 use Rattle.rows.specs.Counting.{is_on_frame}
 use Rattle.rows.specs.Times.{most_rows}
 use Rattle.leaves.specs.declared.entries.Heading.{Heading}
-use Rattle.leaves.specs.Headings.{bound_numbers, heading_plain}
+use Rattle.bounds.specs.Families.{bound_numbers}
+use Rattle.leaves.specs.Headings.{heading_plain}
 use Rattle.leaves.proofs.SameHeading.{same_heading}
 use Rattle.leaves.specs.declared.entries.Entry.TheVariants.{Heading as heading, Row as row}
 use Rattle.leaves.specs.Contents.{bytes_of}
