@@ -1,7 +1,6 @@
 pub mod Multiples
 pub mod CommonFrames
 pub mod Order
-pub mod Making
 pub mod Counted
 pub mod Written
 pub mod Filed

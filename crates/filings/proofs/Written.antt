@@ -1,7 +1,6 @@
 -- A sheet filed in turn: a heading and rows behind it.
-use Rattle.std.proofs.Common.{◌≡◌, ℕ, ◌+◌, ◌*◌, ◌%◌, ◌<◌, ◌≤◌, true, not, eqb, leb, ltb, List, [], ◌∷◌, ◌++◌, map, length, take, Ok, Err, Option, Result, sym, refl, ap, ◌∙◌, ap₂, subst, arith}
-use Rattle.std.specs.List.{list_all}
-use Rattle.std.proofs.lemmas.List.{length-map, map_push}
+use Rattle.std.proofs.Common.{◌≡◌, ℕ, ◌+◌, ◌*◌, ◌<◌, ◌≤◌, true, not, leb, ltb, List, [], ◌∷◌, ◌++◌, map, length, take, Ok, Err, Option, Result, sym, refl, ap, ◌∙◌, ap₂, subst, arith}
+use Rattle.std.proofs.lemmas.List.{map_push}
 use Rattle.std.proofs.lemmas.Bool.{le-ltb, lt-leb, not_from_true}
 use Rattle.std.specs.Prelude.{OnOk}
 use Rattle.std.specs.Result.{IsOk}
@@ -11,19 +10,15 @@ use Rattle.rows.specs.Times.{most_rows}
 use Rattle.rows.proofs.Checks.{passed_first, passes_on}
 use Rattle.leaves.specs.Entries.{row_size}
 use Rattle.writing.specs.Checks.{row_checks}
-use Rattle.std.proofs.lemmas.List.Sums.{AllPass-from_list_all}
-use Rattle.std.proofs.lemmas.List.Folds.{list_all-map}
+use Rattle.rows.specs.declared.frames.FrameNumbers.{FrameNumbers}
 use Rattle.rows.specs.declared.tasks.Numbers.{Numbers}
 use Rattle.rows.specs.declared.tasks.Row.{Row}
 use Rattle.rows.specs.Answers.{checked, gives, refusal, first_refusal}
 use Rattle.rows.specs.Counting.{is_on_frame}
-use Rattle.rows.specs.Judging.{plain}
 use Rattle.rows.specs.Lists.{written}
 use Rattle.leaves.specs.declared.entries.Heading.{Heading}
-use Rattle.leaves.specs.declared.entries.HeadingNumbers.{HeadingNumbers}
 use Rattle.leaves.specs.declared.entries.Entry.TheVariants.{Heading as heading, Row as row}
 use Rattle.leaves.specs.Entries.{row_place}
-use Rattle.leaves.specs.Headings.{heading_plain}
 use Rattle.reading.specs.declared.phases.Phase.{Phase}
 use Rattle.reading.specs.declared.phases.Phase.TheVariants.{Opening, Rows}
 use Rattle.reading.specs.Grammar.{Step, opens}
@@ -33,48 +28,41 @@ use Rattle.writing.specs.Filing.{Files, FilesAll, files}
 use Rattle.writing.proofs.Filed.{rows_filed}
 use Rattle.writing.proofs.Turns.{file_push, turned}
 use Rattle.writing.proofs.Written.{take_written}
-use Rattle.sheets.specs.Tables.{Table, table, IsLawful, sheet_bytes}
-use Rattle.filings.specs.Checks.{filing_checks, IsJudged}
+use Rattle.sheets.specs.Tables.{OnSheet, on_sheet, sheet_bytes}
+use Rattle.filings.specs.Checks.{filing_checks}
 use Rattle.filings.specs.Sheets.{room_checks, sheet_checks, sheet_length}
 
 -- a heading opens the rows
 pub opened_by : {p q : Phase} {h : Heading} → Step p (heading h) q → q ≡ Rows h 0
 opened_by opens = refl
 
--- rows with the numbers of a table that was judged are those of a lawful sheet
-pub sheet_lawful : (h : Heading) (numbers : List Numbers) (rs : List Row) → IsJudged h.frame numbers → map plain rs ≡ numbers → IsLawful (table h rs)
-sheet_lawful h numbers rs judged are = record {
-  few = omega (arith, judged.few, sym (length-map rs plain) ∙ ap length are);
-  on = AllPass-from_list_all (is_on_frame h.frame) rs (sym (list_all-map (λ n. eqb (h.frame % n.period) 0) plain rs) ∙ ap (λ ns. list_all (λ n. eqb (h.frame % n.period) 0) ns) are ∙ judged.on);
-}
-
 -- a sheet that was written: its bytes, and where they end
-pub record Sheeted (old : List ℕ) (t : Table) (end_at : ℕ) (new : List ℕ) : Type 0 where
+pub record Sheeted (old : List ℕ) (t : OnSheet) (end_at : ℕ) (new : List ℕ) : Type 0 where
   pub bytes : new ≡ written old 0 (sheet_bytes t)
   pub place : end_at ≡ row_place (length t.rows)
   pub whole : take end_at new ≡ sheet_bytes t
 
-pub sheeted : {p q : Phase} {old between new : List ℕ} (h : Heading) (rs : List Row) → Files Opening old (heading h) p between → FilesAll p between (map row rs) q new → Sheeted old (table h rs) (place_of q) new
+pub sheeted : {p q : Phase} {old between new : List ℕ} (h : Heading) (rs : List Row) → Files Opening old (heading h) p between → FilesAll p between (map row rs) q new → Sheeted old (on_sheet h rs) (place_of q) new
 sheeted {p = p} {q = q} {old = old} {between = between} {new = new} h rs begun all =
     let turn = turned (files begun all) (omega arith) in
-    let bytes : new ≡ written old 0 (sheet_bytes (table h rs)) = turn.bytes in
-    let upto : place_of q ≡ 0 + length (sheet_bytes (table h rs)) = omega (arith, run_place turn.run) in
+    let bytes : new ≡ written old 0 (sheet_bytes (on_sheet h rs)) = turn.bytes in
+    let upto : place_of q ≡ 0 + length (sheet_bytes (on_sheet h rs)) = omega (arith, run_place turn.run) in
     record {
       bytes = bytes;
       place = omega (arith, (rows_filed rs all).place, ap place_of (opened_by begun.step));
-      whole = ap₂ take upto bytes ∙ take_written old 0 (omega arith) (sheet_bytes (table h rs));
+      whole = ap₂ take upto bytes ∙ take_written old 0 (omega arith) (sheet_bytes (on_sheet h rs));
     }
 
--- rows filed behind a heading, of a table that was judged, and one row more
+-- rows filed behind a heading, and one row of the same table more
 module _ {p q : Phase} {old now : List ℕ} (rs : List Row) (empty : rows_in p ≡ 0) (all : FilesAll p old (map row rs) q now) (r : Row) where
   -- is not refused, where there is room for it
-  pub row_taken : (answered : Result (Unit {0}) Fault) → refusal answered ≡ first_refusal (row_checks q r (length now)) → length rs < most_rows → is_on_frame (frame_in p) r ≡ true → place_of p + (1 + row_size) * (length rs + 1) ≤ length old → IsOk answered
+  pub row_taken : (answered : Result (Unit {0}) Fault) → refusal answered ≡ first_refusal (row_checks q r (length now)) → length rs < most_rows → is_on_frame (frame_in p).ticks r ≡ true → place_of p + (1 + row_size) * (length rs + 1) ≤ length old → IsOk answered
   row_taken answered told few on room =
       let so_far = rows_filed rs all in
-      let here : is_on_frame (frame_in q) r ≡ true = ap (λ h. is_on_frame h r) so_far.frame ∙ on in
+      let here : is_on_frame (frame_in q).ticks r ≡ true = ap (λ h. is_on_frame h.ticks r) so_far.frame ∙ on in
       let passes : first_refusal (row_checks q r (length now)) ≡ gives tt =
       passes_on (leb most_rows (rows_in q)) FullTable (place_of q) _ (lt-leb most_rows (rows_in q) (omega (arith, so_far.rows, empty, few)))
-      ∙ passes_on (not (is_on_frame (frame_in q) r)) OffFrame (place_of q) _ (not_from_true _ here)
+      ∙ passes_on (not (is_on_frame (frame_in q).ticks r)) OffFrame (place_of q) _ (not_from_true _ here)
       ∙ passes_on (ltb (length now) (place_of q + 1 + row_size)) ShortBuffer (place_of q) (gives tt) (le-ltb (length now) (place_of q + 1 + row_size) (omega (arith, so_far.place, so_far.size, room))) in
       by answered (told ∙ passes)
     where
@@ -89,10 +77,6 @@ module _ {p q : Phase} {old now : List ℕ} (rs : List Row) (empty : rows_in p �
       subst (λ es. FilesAll p old es s new) (sym (ap (map row) are ∙ map_push row rs r)) (file_push all one)
 
 -- of a sheet for which there is room nothing is left to be checked
-pub sheet_told : (frame accuracy : Option ℕ) (numbers : List Numbers) (size n : ℕ) → gives n ≡ checked (filing_checks frame accuracy numbers) n → sheet_length numbers ≤ size → gives n ≡ checked (sheet_checks frame accuracy numbers size) n
+pub sheet_told : (frame : Option FrameNumbers) (accuracy : Option ℕ) (numbers : List Numbers) (size n : ℕ) → gives n ≡ checked (filing_checks frame accuracy numbers) n → sheet_length numbers ≤ size → gives n ≡ checked (sheet_checks frame accuracy numbers size) n
 sheet_told frame accuracy numbers size n given room =
     sym (passes_on (ltb size (sheet_length numbers)) ShortBuffer 0 (gives n) (le-ltb size (sheet_length numbers) room)) ∙ passed_first (filing_checks frame accuracy numbers) (room_checks numbers size) n n given n
-
--- a heading that was filed has the numbers that it was begun with
-pub begun_frame : {p : Phase} {old new : List ℕ} {n : HeadingNumbers} (h : Heading) → heading_plain h ≡ n → Files Opening old (heading h) p new → frame_in p ≡ n.frame
-begun_frame h named begun = ap frame_in (opened_by begun.step) ∙ ap (λ m. m.frame) named

@@ -1,5 +1,6 @@
 -- A table that was counted twice, and its leaves.
 use Rattle.std.specs.Prelude.{◌≡◌, ℕ, List, map}
+use Rattle.rows.specs.declared.frames.FrameNumbers.{FrameNumbers}
 use Rattle.rows.specs.declared.tasks.Row.{Row}
 use Rattle.bounds.specs.Meaning.{Meaning}
 use Rattle.bounds.specs.Supplied.{exact_steps, linear_tail}
@@ -11,12 +12,12 @@ use Rattle.leaves.specs.Headings.{heading_plain}
 
 -- a table that was counted: its frame, the accuracy of the linear tail, and its rows in rank order
 pub record Filed : Type 0 where
-  pub frame : ℕ
+  pub frame : FrameNumbers
   pub accuracy : ℕ
   pub rows : List Row
 
 -- a counted table, written out
-abbrev pub filed : ℕ → ℕ → List Row → Filed
+abbrev pub filed : FrameNumbers → ℕ → List Row → Filed
 filed h k rows = record { frame = h; accuracy = k; rows = rows }
 
 -- its findings by a bound
@@ -32,7 +33,7 @@ abbrev pub bounded_findings : Filed → List Found
 bounded_findings f = findings_by (linear_tail f.accuracy) f
 
 -- the numbers of a heading: the frame, the bound by its number, and its accuracy
-abbrev pub heading_of : ℕ → ℕ → ℕ → HeadingNumbers
+abbrev pub heading_of : FrameNumbers → ℕ → ℕ → HeadingNumbers
 heading_of h bound k = record { frame = h; bound = bound; accuracy = k }
 
 -- contents are a leaf of a counted table: they have these numbers in the heading, the rows of the table, and findings

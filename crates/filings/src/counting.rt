@@ -3,14 +3,14 @@ ghost use Rattle.std.specs.Prelude.{◌≡◌, map, Some, IfOk};
 ghost use Rattle.rows.specs.Answers.{answer, checked};
 ghost use Rattle.rows.specs.Judging.{plain, rows_of};
 ghost use Rattle.bounds.specs.Values.{accuracy_of};
-ghost use Rattle.filings.specs.Checks.{filing_checks, frame_for, IsJudged};
+ghost use Rattle.filings.specs.Checks.{filing_checks, frame_for};
 ghost use Rattle.filings.specs.Filings.{filed};
 
 use crate::filings::Filing;
-use crate::judging::{check_frame, judge};
+use crate::judging::{judge, judge_frame};
 use crate::progress::Progress;
 use bounds::LinearTail;
-use rows::{Fault, Numbers};
+use rows::{Fault, FrameNumbers, Numbers, Table};
 
 /// Judges a table and counts its rows from rank 1 on, each in exact steps and by the linear tail of
 /// an accuracy (docs/RULES.md, Surveys). It is counted on the frame given, or else on the common
@@ -22,7 +22,7 @@ use rows::{Fault, Numbers};
 /// smallest rank, where a frame is given; else 1, bad frame, at 0, where the periods have no common
 /// multiple up to the horizon (docs/REFUSALS.md).
 pub fn count<P: Progress>(
-    frame: Option<u32>,
+    frame: Option<FrameNumbers>,
     accuracy: u32,
     table: &[Numbers],
     progress: &mut P,
@@ -32,26 +32,19 @@ pub fn count<P: Progress>(
         (filed (frame_for frame table.now) accuracy (rows_of table.now)) }
     ensures rows { IfOk result (λ f. map plain f.rows ≡ table.now) }
 {
-    check_frame(frame)?;
+    let frame = judge_frame(frame)?;
     let tail = LinearTail::new(accuracy)?;
-    let frame = judge(frame, table)?;
-    Ok(count_rows(frame, tail, table, progress))
+    let judged = judge(frame, table)?;
+    Ok(count_rows(&judged, tail, progress))
 }
 
-// Counts the rows of a table that was judged.
-fn count_rows<P: Progress>(
-    frame: u32,
-    tail: LinearTail,
-    table: &[Numbers],
-    progress: &mut P,
-) -> Filing
-    requires { IsJudged frame table.now }
-    ensures answered { result ≡ filed frame (accuracy_of tail) (rows_of table.now) }
-    ensures rows { map plain result.rows ≡ table.now }
+// Counts the rows of a table.
+fn count_rows<P: Progress>(table: &Table, tail: LinearTail, progress: &mut P) -> Filing
+    ensures { result ≡ filed table.now.frame (accuracy_of tail) table.now.rows }
 {
-    let mut filing = Filing::of(frame, tail);
-    for (i, numbers) in table.iter().enumerate() {
-        filing.add(numbers.judge(0).unwrap());
+    let mut filing = Filing::of(table.frame(), tail);
+    for (i, row) in table.rows().iter().enumerate() {
+        filing.add(*row);
         progress.counted(i + 1, table.len());
     }
     filing

@@ -2,21 +2,20 @@
 ghost use Rattle.std.specs.Prelude.{◌≡◌, ◌+◌, ◌*◌, ◌≤◌, length, map, MatchResult, take};
 ghost use Rattle.rows.specs.Answers.{answer, checked, gives};
 ghost use Rattle.rows.specs.Lists.{written};
-ghost use Rattle.rows.specs.Judging.{plain, rows_of};
 ghost use Rattle.leaves.specs.declared.entries.Entry.{Entry};
 ghost use Rattle.leaves.specs.Entries.{row_size};
 ghost use Rattle.bounds.specs.Families.{bound_numbers};
 ghost use Rattle.reading.specs.Phases.{place_of, rows_in, frame_in};
 ghost use Rattle.writing.specs.Filing.{FilesAll};
-ghost use Rattle.sheets.specs.Tables.{Table, sheet_bytes};
+ghost use Rattle.sheets.specs.Tables.{OnSheet, sheet_bytes};
 ghost use Rattle.sheets.specs.Reading.{Fits};
-ghost use Rattle.filings.specs.Checks.{accuracy_checks, frame_for, IsJudged};
+ghost use Rattle.filings.specs.Checks.{accuracy_checks, frame_for};
 ghost use Rattle.filings.specs.Sheets.{bound_pair, sheet_checks, sheet_length, heading_for, IsTableOf};
 
-use crate::judging::{check_frame, judge};
+use crate::judging::{judge, judge_frame};
 use bounds::{LinearTail, Supplied};
 use leaves::{HEADING_SIZE, Heading, ROW_SIZE};
-use rows::{Fault, Numbers, Refusal};
+use rows::{Fault, FrameNumbers, Numbers, Refusal, Table};
 use writing::{RowsLeaf, begin};
 
 /// Writes the sheet of a table at the first byte of a buffer, and no other byte (docs/FORMAT.md,
@@ -26,7 +25,7 @@ use writing::{RowsLeaf, begin};
 /// Refused as `count` is, with 3, bad accuracy, where an accuracy is given; and last with 19, short
 /// buffer, at 0 (docs/REFUSALS.md). A refusal leaves the buffer as it was.
 pub fn write_sheet(
-    frame: Option<u32>,
+    frame: Option<FrameNumbers>,
     accuracy: Option<u32>,
     table: &[Numbers],
     buffer: &mut [u8],
@@ -34,21 +33,21 @@ pub fn write_sheet(
     ensures answered { answer (λ n. n) result
         ≡ checked (sheet_checks frame accuracy table.now (length buffer.old))
         (sheet_length table.now) }
-    ensures written { MatchResult result (λ n. (t : Table)
+    ensures written { MatchResult result (λ n. (t : OnSheet)
         × IsTableOf (heading_for (frame_for frame table.now) accuracy) table.now t
         × (buffer.new ≡ written buffer.old 0 (sheet_bytes t))
         × Fits (take n buffer.new) (gives t))
         (λ _. buffer.new ≡ buffer.old) }
 {
-    check_frame(frame)?;
+    let frame = judge_frame(frame)?;
     let bound = bound_for(accuracy)?;
-    let frame = judge(frame, table)?;
+    let judged = judge(frame, table)?;
     if buffer.len() < 1 + HEADING_SIZE + (1 + ROW_SIZE) * table.len() {
         return Err(Refusal::ShortBuffer.at(0));
     }
-    let heading = Heading { frame, bound };
-    let leaf = begin(heading.numbers(), buffer)?;
-    Ok(put_rows(leaf, table, buffer).phase().place() as usize)
+    let frame = judged.frame().numbers();
+    let leaf = begin(Heading { frame, bound }, buffer)?;
+    Ok(put_rows(leaf, &judged, buffer).phase().place() as usize)
 }
 
 // The linear tail of an accuracy that is given, or else exact steps.
@@ -62,18 +61,16 @@ fn bound_for(accuracy: Option<u32>) -> Result<Supplied, Fault>
     }
 }
 
-// Writes the rows of a table that was judged behind the heading.
-fn put_rows(leaf: RowsLeaf, table: &[Numbers], buffer: &mut [u8]) -> RowsLeaf
+// Writes the rows of a table behind the heading.
+fn put_rows(leaf: RowsLeaf, table: &Table, buffer: &mut [u8]) -> RowsLeaf
     requires empty { rows_in leaf ≡ 0 }
-    requires judged { IsJudged (frame_in leaf) table.now }
-    requires room { place_of leaf + (1 + row_size) * length table.now ≤ length buffer.old }
-    ensures filed { FilesAll leaf buffer.old (map Entry.Row (rows_of table.now)) result buffer.new }
-    ensures numbers { map plain (rows_of table.now) ≡ table.now }
+    requires frame { frame_in leaf ≡ table.now.frame }
+    requires room { place_of leaf + (1 + row_size) * length table.now.rows ≤ length buffer.old }
+    ensures { FilesAll leaf buffer.old (map Entry.Row table.now.rows) result buffer.new }
 {
     let mut leaf = leaf;
-    for numbers in table {
-        let row = numbers.judge(0).unwrap();
-        leaf.row(&row, buffer).unwrap();
+    for row in table.rows() {
+        leaf.row(row, buffer).unwrap();
     }
     leaf
 }
