@@ -10,10 +10,12 @@ use Rattle.csv.proofs.RoundTrip.{read-write}
 use Rattle.csv.proofs.WriteFacts.{appends-more}
 use Rattle.grids.specs.CsvRecords.{rows_text}
 
-reached : (records : List (List (List ℕ))) → Reached default_config st.StartRecord (rows_text records) (map read_back records) st.StartRecord []
+reached : (records : List (List (List ℕ)))
+    → Reached default_config st.StartRecord (rows_text records) (map read_back records) st.StartRecord []
 unfolding Reached
 reached [] = (refl, refl)
-reached (fields ∷ rest) = ((read_back fields, st.StartRecord, rows_text rest), read-write fields (rows_text rest), refl, reached rest)
+reached (fields ∷ rest) =
+    ((read_back fields, st.StartRecord, rows_text rest), read-write fields (rows_text rest), refl, reached rest)
 
 nothing_more : next_record default_config st.StartRecord [] [] [] ≡ None
 unfolding next_record
@@ -33,7 +35,8 @@ begins (h ∷ hs) zero below = (h, refl)
 begins (h ∷ hs) (suc i) below = let rest = begins hs i (omega arith) in (rest.0, rest.1)
 
 -- one more field, of what a list gives at each place
-pub field_more : {X : Type 0} (f : List X → ℕ → List (List ℕ)) (x : ℕ → List ℕ) → ((h : X) (hs : List X) (n : ℕ) → f (h ∷ hs) n ≡ x n ∷ f hs (suc n))
+pub field_more : {X : Type 0} (f : List X → ℕ → List (List ℕ)) (x : ℕ → List ℕ)
+    → ((h : X) (hs : List X) (n : ℕ) → f (h ∷ hs) n ≡ x n ∷ f hs (suc n))
     → (hs : List X) (i : ℕ) (old new all : List (List ℕ)) → i < length hs → new ≡ old ++ (x i ∷ [])
     → old ++ f (drop i hs) i ≡ all → new ++ f (drop (i + 1) hs) (i + 1) ≡ all
 field_more f x step hs i old new all below put before =
@@ -45,8 +48,9 @@ field_more f x step hs i old new all below put before =
     ∙ before)
 
 -- one more record
-pub record_more : {X : Type 0} (f : X → List (List ℕ)) (xs : List X) (i : ℕ) (x : X) (a b c : Option (List ℕ)) (bs all : List ℕ) → i < length xs
-    → x ≡ get_or xs i x → Appends a b bs → bs ++ rows_text (map f (drop i xs)) ≡ all → Appends b c (row_text default_writer (f x))
+pub record_more : {X : Type 0} (f : X → List (List ℕ)) (xs : List X) (i : ℕ) (x : X) (a b c : Option (List ℕ))
+    (bs all : List ℕ) → i < length xs → x ≡ get_or xs i x → Appends a b bs
+    → bs ++ rows_text (map f (drop i xs)) ≡ all → Appends b c (row_text default_writer (f x))
     → (cs : List ℕ) × Appends a c cs × (cs ++ rows_text (map f (drop (i + 1) xs)) ≡ all)
 record_more f xs i x a b c bs all below read put before wrote = (
   bs ++ row_text default_writer (f x),
@@ -58,6 +62,7 @@ record_more f xs i x a b c bs all below read put before wrote = (
 )
 
 -- what is given back of a writer that had written nothing, once it has written two texts
-pub text_is : (text third second first xs ys : List ℕ) → text ≡ third → third ≡ second ++ ys → second ≡ first ++ xs → first ≡ [] → text ≡ xs ++ ys
+pub text_is : (text third second first xs ys : List ℕ)
+    → text ≡ third → third ≡ second ++ ys → second ≡ first ++ xs → first ≡ [] → text ≡ xs ++ ys
 text_is text third second first xs ys given later sooner nothing =
     given ∙ later ∙ ap (λ (t : List ℕ). t ++ ys) (sooner ∙ ap (λ (t : List ℕ). t ++ xs) nothing)

@@ -25,9 +25,14 @@ flat_cell (Number n) = refl
 flat_cell (Text text) = refl
 
 flat_at : (row : List Cell) (place : ℕ) → depth (tree_at row place) ≡ 0
-flat_at row place = elim (slice_get row place) as (λ o. depth (option_map_or cell_tree o null) ≡ 0) [ None ↦ refl | Some cell ↦ flat_cell cell ]
+flat_at row place =
+    elim (slice_get row place) as (λ o. depth (option_map_or cell_tree o null) ≡ 0) [
+      | None ↦ refl
+      | Some cell ↦ flat_cell cell
+    ]
 
-flat_members : (headings : Headings) (place : ℕ) (row : List Cell) → members_depth (members_from headings place row) ≡ 0
+flat_members : (headings : Headings) (place : ℕ) (row : List Cell)
+    → members_depth (members_from headings place row) ≡ 0
 flat_members [] place row = refl
 flat_members (heading ∷ headings) place row = rw (flat_at row place, flat_members headings (suc place) row) refl
 
@@ -40,21 +45,28 @@ reads_as : (text : List ℕ) (ts : List Token) (headings : Headings) (rows : Row
     → tokens (print ts) ≡ ts → ts ≡ json_tokens (table_tree headings rows) → ReadsAs text headings rows
 reads_as text ts headings rows is reads same =
     let tree = table_tree headings rows in
-    let all : tokens text ≡ json_tokens tree ++ [] = ap tokens is ∙ reads ∙ same ∙ sym (append-nil (json_tokens tree)) in
+    let all : tokens text ≡ json_tokens tree ++ [] =
+    ap tokens is ∙ reads ∙ same ∙ sym (append-nil (json_tokens tree)) in
     record {
       ordered = ap (λ (ts : List Token). option_and_then (λ p. if_last p.0 p.1) (value max_depth ts)) all
-          ∙ ap (option_and_then (λ p. if_last p.0 p.1)) (value-json_tokens tree max_depth [] (omega (arith, shallow headings rows)));
-      taken = ap (λ (ts : List Token). option_and_then of_json (option_and_then (λ p. if_last p.0 p.1) (value taken.max_depth ts))) all
-          ∙ ap (λ (r : Option (Json × List Token)). option_and_then of_json (option_and_then (λ p. if_last p.0 p.1) r)) (value-json_tokens tree taken.max_depth [] (omega (arith, shallow headings rows)));
+          ∙ ap (option_and_then (λ p. if_last p.0 p.1))
+          (value-json_tokens tree max_depth [] (omega (arith, shallow headings rows)));
+      taken = ap (λ (ts : List Token).
+          option_and_then of_json (option_and_then (λ p. if_last p.0 p.1) (value taken.max_depth ts))) all
+          ∙ ap (λ (r : Option (Json × List Token)).
+          option_and_then of_json (option_and_then (λ p. if_last p.0 p.1) r))
+          (value-json_tokens tree taken.max_depth [] (omega (arith, shallow headings rows)));
     }
 
 -- the same, by what was written in turn
-pub written_reads_as : (text before : List ℕ) (ts first none : List Token) (headings : Headings) (rows : Rows) → text ≡ before ++ print ts
+pub written_reads_as : (text before : List ℕ) (ts first none : List Token) (headings : Headings) (rows : Rows)
+    → text ≡ before ++ print ts
     → before ≡ [] → tokens (print ts) ≡ ts → ts ≡ first ++ items_tokens (rows_tree headings rows)
     → first ≡ none ++ (Token.begin_array ∷ []) → none ≡ [] → ReadsAs text headings rows
 written_reads_as text before ts first none headings rows is nothing reads rest begun fresh =
     reads_as text ts headings rows (is ∙ ap (λ (b : List ℕ). b ++ print ts) nothing) reads
-    (rest ∙ ap (λ (f : List Token). f ++ items_tokens (rows_tree headings rows)) (begun ∙ ap (λ (n : List Token). n ++ (Token.begin_array ∷ [])) fresh))
+    (rest ∙ ap (λ (f : List Token). f ++ items_tokens (rows_tree headings rows))
+    (begun ∙ ap (λ (n : List Token). n ++ (Token.begin_array ∷ [])) fresh))
 
 -- a number is read back
 pub numbers_taken : NumbersTaken

@@ -20,7 +20,8 @@ padded_text column text =
 -- the texts from a place on, each set to its column's side and with two blanks behind it
 abbrev pub fields_text : (ℕ → List ℕ) → ℕ → List AlignedColumn → List ℕ
 fields_text text place [] = []
-fields_text text place (column ∷ columns) = padded_text column (text place) ++ (blanks 2 ++ fields_text text (suc place) columns)
+fields_text text place (column ∷ columns) =
+    padded_text column (text place) ++ (blanks 2 ++ fields_text text (suc place) columns)
 
 -- a line with no blanks at its end
 abbrev pub trimmed : List ℕ → List ℕ

@@ -35,4 +35,5 @@ has_number place row = option_map_or is_number (slice_get row place) false
 
 -- each number of 64 bits, written so, reads back as that number
 abbrev pub NumbersReadBack : (Cell → List ℕ) → Type 0
-NumbersReadBack written = (n : ℕ) → n < 2 ^ 64 → IsNumeral 10 (written (Number n)) × (digits_value 10 (written (Number n)) ≡ n)
+NumbersReadBack written =
+    (n : ℕ) → n < 2 ^ 64 → IsNumeral 10 (written (Number n)) × (digits_value 10 (written (Number n)) ≡ n)

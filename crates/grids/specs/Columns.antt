@@ -29,4 +29,5 @@ column_under heading place rows = record {
 -- the columns under headings, the first of which has this place
 abbrev pub columns_under : Headings → ℕ → Rows → List AlignedColumn
 columns_under [] place rows = []
-columns_under (heading ∷ headings) place rows = column_under heading.now place rows ∷ columns_under headings (suc place) rows
+columns_under (heading ∷ headings) place rows =
+    column_under heading.now place rows ∷ columns_under headings (suc place) rows

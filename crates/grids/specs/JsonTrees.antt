@@ -20,7 +20,8 @@ tree_at row place = option_map_or cell_tree (slice_get row place) null
 -- the members of a row under headings, the first of which has this place
 abbrev pub members_from : Headings → ℕ → List Cell → Members
 members_from [] place row = no_members
-members_from (heading ∷ headings) place row = member heading.now (tree_at row place) (members_from headings (suc place) row)
+members_from (heading ∷ headings) place row =
+    member heading.now (tree_at row place) (members_from headings (suc place) row)
 
 -- an object for each row
 abbrev pub rows_tree : Headings → Rows → Items

@@ -10,6 +10,7 @@ loop-place-preserved c =
     let row = c.args.row.now in
     record {
       whole = c.in_ok-push_at.ensures.partial;
-      fields = field_more (λ (hs : Headings) (n : ℕ). fields_from hs n row) (field_at row) (λ h hs n. refl) c.args.headings.now c.loop-place.place
-          (fields_of c.loop-place.fields) (fields_of c.push_at.new.fields) _ c.loop-place-test.true c.in_ok-push_at.ensures.fields c.loop-place.invariant.fields;
+      fields = field_more (λ (hs : Headings) (n : ℕ). fields_from hs n row) (field_at row) (λ h hs n. refl)
+          c.args.headings.now c.loop-place.place (fields_of c.loop-place.fields) (fields_of c.push_at.new.fields) _
+          c.loop-place-test.true c.in_ok-push_at.ensures.fields c.loop-place.invariant.fields;
     }

@@ -9,7 +9,8 @@ use Rattle.grids.proofs.csv_text.write_row_records.Given as goal
 abbrev pub invariant-loop-row : goal.invariant-loop-row
 invariant-loop-row g l = record {
   fresh : IsFresh l.writer;
-  bytes : (bs : List ℕ) × Appends (text_written g.W.Write.contents l.initial.writer) (text_written g.W.Write.contents l.writer) bs
+  bytes : (bs : List ℕ)
+      × Appends (text_written g.W.Write.contents l.initial.writer) (text_written g.W.Write.contents l.writer) bs
       × (bs ++ rows_text (map (λ row. fields_from l.headings 0 row.items) (drop l.row-index l.rows))
       ≡ rows_text (map (λ row. fields_from l.headings 0 row.items) l.rows));
 }

@@ -8,7 +8,8 @@ use Rattle.grids.proofs.lines.aligned.Goals as goal
 
 -- one more line is written
 line_more : {X : Type 0} (f : X → List ℕ) (xs : List X) (i : ℕ) (x : X) (text new total : List ℕ) → i < length xs
-    → x ≡ get_or xs i x → new ≡ text ++ f x → text ++ flat_map f (drop i xs) ≡ total → new ++ flat_map f (drop (i + 1) xs) ≡ total
+    → x ≡ get_or xs i x → new ≡ text ++ f x → text ++ flat_map f (drop i xs) ≡ total
+    → new ++ flat_map f (drop (i + 1) xs) ≡ total
 line_more f xs i x text new total below read put before =
     ap (λ (t : List ℕ). t ++ flat_map f (drop (i + 1) xs)) put
     ∙ append_assoc text (f x) (flat_map f (drop (i + 1) xs))

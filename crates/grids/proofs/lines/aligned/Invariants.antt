@@ -8,4 +8,5 @@ use Rattle.grids.proofs.lines.aligned.Given as goal
 abbrev pub invariant-loop-row : goal.invariant-loop-row
 invariant-loop-row l =
     l.text.items ++ flat_map (λ row. line_text (shown_at row.items) l.columns.items) (drop l.row-index l.row-items)
-    ≡ line_text (heading_at l.grid.headings.items) l.columns.items ++ flat_map (λ row. line_text (shown_at row.items) l.columns.items) l.row-items
+    ≡ line_text (heading_at l.grid.headings.items) l.columns.items
+    ++ flat_map (λ row. line_text (shown_at row.items) l.columns.items) l.row-items
