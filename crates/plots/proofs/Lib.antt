@@ -1,4 +1,5 @@
 pub mod Steps
 pub mod Walk
 pub mod Columns
-pub mod Demands
+pub mod Windows
+pub mod Told

@@ -1,4 +1,3 @@
-pub mod Tested
 pub mod Thinning
 pub mod Pictures
 pub mod Scales

@@ -1,24 +1,21 @@
 -- What a picture shows, in whole numbers.
-use Rattle.std.specs.Prelude.{◌≡◌, ℕ, ◌+◌, ◌-◌, ◌*◌, ◌^◌, List, [], ◌∷◌, map, min, sum_by, Option, None, Some}
+use Rattle.std.specs.Prelude.{◌≡◌, ℕ, List, [], ◌∷◌, map, Option, None, Some}
+use Rattle.std.specs.Option.{unwrap_or}
 use Rattle.std.specs.Ordering.{nat_cmp}
 use Rattle.std.specs.BTreeSet.{BTreeSet, IsOrdered}
-use Rattle.rows.specs.declared.tasks.Row.{Row}
-use Rattle.rows.specs.Counting.{window}
-use Rattle.bounds.specs.Meaning.{Meaning}
-use Rattle.bounds.specs.Answering.{amount_answered}
-use Rattle.findings.specs.Points.{is_test_point}
-use Rattle.plots.specs.Tested.{is_tested}
+use Rattle.findings.specs.Demand.{Load, demand}
+use Rattle.findings.specs.Findings.{is_tested}
+use Rattle.findings.specs.Lent.{demand_told}
 use Rattle.plots.specs.Thinning.{IsThinned}
 use Rattle.plots.specs.declared.pictures.Point.{Point}
 
--- the demand by a bound up to t, in parts: so many of its own and what the rows above are answered to demand, or the
--- greatest number of 64 bits, where it is more
-abbrev pub demand_up_to : Meaning → ℕ → ℕ → List Row → ℕ → ℕ
-demand_up_to m h own above t = min (own + sum_by (λ r. amount_answered m h r t) above) (2 ^ 64 - 1)
+-- what is drawn at t of a load whose row may rest up to last: the demand up to it, in parts, and whether it is a test point
+abbrev pub point_at : Load → ℕ → ℕ → Point
+point_at l last t = record { at = t; demand = demand l t; tested = is_tested l last t }
 
--- what is drawn at t: the demand up to it, of which the row's own work on the frame h is a part, and whether it is a test point
-abbrev pub point_at : Meaning → ℕ → Row → List Row → ℕ → Point
-point_at m h row above t = record { at = t; demand = demand_up_to m h (h * row.work) above t; tested = is_tested m above (window row) t }
+-- the same at any instant: past the horizon no demand is told, and 0 is drawn
+abbrev pub point_told : Load → ℕ → ℕ → Point
+point_told l last t = record { at = t; demand = unwrap_or (demand_told l t) 0; tested = is_tested l last t }
 
 -- the first rests of both findings, where they are some
 abbrev pub both_rests : Option ℕ → Option ℕ → List ℕ
@@ -28,8 +25,8 @@ both_rests (Some s) None = s ∷ []
 both_rests (Some s) (Some t) = s ∷ (t ∷ [])
 
 -- points are those of a curve: what is drawn at each instant of the thinned window, in rising order
-pub record IsCurve (m : Meaning) (h : ℕ) (row : Row) (above : List Row) (columns : ℕ) (rests : List ℕ) (points : List Point) : Type 0 where
+pub record IsCurve (l : Load) (last columns : ℕ) (rests : List ℕ) (points : List Point) : Type 0 where
   pub kept : BTreeSet ℕ
-  pub thinned : IsThinned (is_test_point m above (window row)) (window row) columns rests kept
+  pub thinned : IsThinned (is_tested l last) last columns rests kept
   pub rising : IsOrdered nat_cmp kept
-  pub drawn : points ≡ map (point_at m h row above) kept.keys
+  pub drawn : points ≡ map (point_at l last) kept.keys

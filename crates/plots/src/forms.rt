@@ -5,7 +5,7 @@
 pub(crate) const HEAD: &str = "<?xml version=\"1.0\" encoding=\"UTF-8\"?>
 <svg xmlns=\"http://www.w3.org/2000/svg\" width=\"900\" height=\"600\" viewBox=\"0 0 900 600\">
 <title>%</title>
-<desc>rank %; window %; exact % points %; % % points %; drawn % of % test points by the tail</desc>
+<desc>rank %; window %; exact % points %; % % points %; drawn % of % test points by the %</desc>
 <style>
 text { font: 13px sans-serif; fill: #000 }
 .head { font-size: 16px }
@@ -48,25 +48,25 @@ pub(crate) const AXES: &str = "<path class=\"axis\" d=\"M90.0 62.0V422.0H810.0\"
 <g clip-path=\"url(#frame)\">
 <path class=\"exact\" d=\"M90.0 %";
 
-// One of the exact steps, and the beginning of the demand by the linear tail.
+// One of the exact steps, and the beginning of the demand by the bound.
 pub(crate) const STEP: &str = "V%H%";
 
 pub(crate) const BOUNDED: &str = "\"/>
 <path class=\"bounded\" d=\"M90.0 %";
 
-// The demand by the linear tail at an instant, and where it is higher just after it.
+// The demand by the bound at an instant, and where it is higher just after it.
 pub(crate) const LINE: &str = "L% %";
 
 pub(crate) const RISE: &str = "V%";
 
-// What each line of marks is for, and the beginning of the test points by the linear tail.
+// What each line of marks is for, and the beginning of the test points by the bound.
 pub(crate) const LANES: &str = "\"/>
 </g>
 <text class=\"small\" x=\"84.0\" y=\"433.0\" dy=\"5\" text-anchor=\"end\">%</text>
 <text class=\"small\" x=\"84.0\" y=\"446.0\" dy=\"4\" text-anchor=\"end\">exact</text>
 <path class=\"diamond\" d=\"";
 
-// A diamond for a test point by the linear tail, a stroke for one in exact steps, and what stands between
+// A diamond for a test point by the bound, a stroke for one in exact steps, and what stands between
 // and behind them.
 pub(crate) const DIAMOND: &str = "M% 428.5l3.5 4.5l-3.5 4.5l-3.5 -4.5z";
 
@@ -78,7 +78,7 @@ pub(crate) const STROKE: &str = "M% 442.5v7";
 pub(crate) const MARKED: &str = "\"/>
 ";
 
-// The first rest in exact steps: a label and a filled circle. By the linear tail: an open square.
+// The first rest in exact steps: a label and a filled circle. By the bound: an open square.
 pub(crate) const EXACT_REST: &str =
     "<text class=\"label\" x=\"%\" y=\"%\" dx=\"%\" dy=\"%\" text-anchor=\"%\">exact %</text>
 <circle class=\"rest\" cx=\"%\" cy=\"%\" r=\"5\"/>
@@ -93,7 +93,7 @@ pub(crate) const BOUNDED_REST: &str =
 pub(crate) const LEGEND: &str = "<path class=\"exact\" d=\"M90 514h44\"/>
 <text x=\"144\" y=\"514\" dy=\"4\">demand in exact steps</text>
 <path class=\"bounded\" d=\"M90 536h44\"/>
-<text x=\"144\" y=\"536\" dy=\"4\">demand by the linear tail, %</text>
+<text x=\"144\" y=\"536\" dy=\"4\">demand by the %, %</text>
 <path class=\"service\" d=\"M90 558h44\"/>
 <text x=\"144\" y=\"558\" dy=\"4\">service: work = time</text>
 <path class=\"window\" d=\"M90 580h44\"/>
@@ -103,7 +103,7 @@ pub(crate) const LEGEND: &str = "<path class=\"exact\" d=\"M90 514h44\"/>
 <rect class=\"rest\" x=\"446.5\" y=\"530.5\" width=\"11\" height=\"11\"/>
 <text x=\"470\" y=\"536\" dy=\"4\">%: %%, points tested %</text>
 <path class=\"diamond\" d=\"M452 553.5l3.5 4.5l-3.5 4.5l-3.5 -4.5z\"/>
-<text x=\"470\" y=\"558\" dy=\"4\">test points by the tail, % of % drawn</text>
+<text x=\"470\" y=\"558\" dy=\"4\">test points by the %, % of % drawn</text>
 <path class=\"stroke\" d=\"M452 576.5v7\"/>
 <text x=\"470\" y=\"580\" dy=\"4\">test points in exact steps, % drawn</text>
 </svg>

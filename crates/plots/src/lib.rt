@@ -1,5 +1,5 @@
-//! A picture of one row's demand over time, as SVG: in exact steps and by a linear tail, with the test
-//! points and the first rests. Long spans are thinned without losing a corner that decides.
+//! A picture of one row's demand over time, as SVG: in exact steps and by a bound, with the test points
+//! and the first rests. Long spans are thinned without losing a corner that decides.
 #![tactic(auto)]
 
 mod drawings;
@@ -12,9 +12,11 @@ mod marks;
 mod pictures;
 mod plotting;
 mod points;
+mod questions;
 mod scales;
 mod thinning;
 
-pub use drawings::{Drawing, draw};
+pub use drawings::draw;
 pub use pictures::{Picture, Point, picture_of};
+pub use questions::{Drawing, Names};
 pub use thinning::{COLUMNS, instants};

@@ -4,11 +4,16 @@ use crate::forms::{AXES, BOUNDED, LINE, RISE, STEP, TIME, WORK};
 use crate::plotting::Plot;
 use crate::scales::tick_step;
 use crate::thinning::column_width;
+use bounds::Bound;
 use std::io;
 use std::io::Write;
 
 // The marks of an axis at round numbers: that of time, which goes across, or that of work.
-fn draw_axis<W: Write>(plot: &Plot<'_>, across: bool, writer: &mut W) -> io::Result<()> {
+fn draw_axis<B: Bound, W: Write>(
+    plot: &Plot<'_, B>,
+    across: bool,
+    writer: &mut W,
+) -> io::Result<()> {
     let (form, end) = if across {
         (TIME, plot.picture.window)
     } else {
@@ -34,7 +39,7 @@ fn draw_axis<W: Write>(plot: &Plot<'_>, across: bool, writer: &mut W) -> io::Res
 }
 
 // The demand in exact steps. Each step stands just after the instant that it follows.
-fn draw_exact<W: Write>(plot: &Plot<'_>, writer: &mut W) -> io::Result<()> {
+fn draw_exact<B: Bound, W: Write>(plot: &Plot<'_, B>, writer: &mut W) -> io::Result<()> {
     for point in &plot.picture.exact {
         let y = Value::Tenths(plot.y(point.demand));
         fill(writer, STEP, &[y, Value::Tenths(plot.x(point.at))])?;
@@ -42,8 +47,8 @@ fn draw_exact<W: Write>(plot: &Plot<'_>, writer: &mut W) -> io::Result<()> {
     Ok(())
 }
 
-// The demand by the linear tail at an instant, and just after it.
-fn draw_bend<W: Write>(plot: &Plot<'_>, at: u32, writer: &mut W) -> io::Result<()> {
+// The demand by the bound at an instant, and just after it.
+fn draw_bend<B: Bound, W: Write>(plot: &Plot<'_, B>, at: u32, writer: &mut W) -> io::Result<()> {
     let y = plot.y(plot.bounded(at));
     let above = plot.y(plot.bounded_after(at));
     fill(writer, LINE, &[Value::Tenths(plot.x(at)), Value::Tenths(y)])?;
@@ -53,9 +58,9 @@ fn draw_bend<W: Write>(plot: &Plot<'_>, at: u32, writer: &mut W) -> io::Result<(
     Ok(())
 }
 
-// The demand by the linear tail. Where a column may have lost corners, the line is drawn through its
-// end, past which it is straight again.
-fn draw_bounded<W: Write>(plot: &Plot<'_>, writer: &mut W) -> io::Result<()> {
+// The demand by the bound. Where a column may have lost test points, the line is drawn through its
+// end, past which there is none before the next point.
+fn draw_bounded<B: Bound, W: Write>(plot: &Plot<'_, B>, writer: &mut W) -> io::Result<()> {
     let width = column_width(plot.picture.window).max(1);
     let mut last = 0u32;
     for point in &plot.picture.bounded {
@@ -70,7 +75,7 @@ fn draw_bounded<W: Write>(plot: &Plot<'_>, writer: &mut W) -> io::Result<()> {
 }
 
 // All lines.
-pub(crate) fn draw_lines<W: Write>(plot: &Plot<'_>, writer: &mut W) -> io::Result<()> {
+pub(crate) fn draw_lines<B: Bound, W: Write>(plot: &Plot<'_, B>, writer: &mut W) -> io::Result<()> {
     draw_axis(plot, true, writer)?;
     draw_axis(plot, false, writer)?;
     let window = plot.picture.window;

@@ -4,6 +4,7 @@ use crate::forms::{BOUNDED_REST, DIAMOND, EXACT_REST, LANES, MARKED, STROKE, STR
 use crate::layout::{FOOT, LEFT};
 use crate::pictures::Point;
 use crate::plotting::Plot;
+use bounds::Bound;
 use std::io;
 use std::io::Write;
 
@@ -21,8 +22,8 @@ const BOUNDED_LABEL: i64 = 1530;
 const RIGHT: i64 = 8950;
 
 // A mark for each test point that is drawn.
-fn draw_points<W: Write>(
-    plot: &Plot<'_>,
+fn draw_points<B: Bound, W: Write>(
+    plot: &Plot<'_, B>,
     points: &[Point],
     form: &str,
     writer: &mut W,
@@ -45,7 +46,11 @@ fn side(right: bool) -> (Value<'static>, Value<'static>) {
 }
 
 // The first rest in exact steps: its label below it on the right, where the curves have risen.
-fn draw_exact_rest<W: Write>(plot: &Plot<'_>, rest: u32, writer: &mut W) -> io::Result<()> {
+fn draw_exact_rest<B: Bound, W: Write>(
+    plot: &Plot<'_, B>,
+    rest: u32,
+    writer: &mut W,
+) -> io::Result<()> {
     let x = plot.x(rest);
     let y = plot.y(plot.exact(rest));
     let dy = Value::Words(if y > FOOT - ROOM { "-9" } else { "18" });
@@ -56,10 +61,10 @@ fn draw_exact_rest<W: Write>(plot: &Plot<'_>, rest: u32, writer: &mut W) -> io::
     fill(writer, EXACT_REST, &[x, y, dx, dy, end, rest, x, y])
 }
 
-// The first rest by the linear tail: its label above it on the left, where the curves have not risen
+// The first rest by the bound: its label above it on the left, where the curves have not risen
 // yet.
-fn draw_bounded_rest<W: Write>(
-    plot: &Plot<'_>,
+fn draw_bounded_rest<B: Bound, W: Write>(
+    plot: &Plot<'_, B>,
     rest: u32,
     words: Value<'_>,
     writer: &mut W,
@@ -81,7 +86,11 @@ fn draw_bounded_rest<W: Write>(
 }
 
 // The marks of the test points.
-fn draw_lanes<W: Write>(plot: &Plot<'_>, words: Value<'_>, writer: &mut W) -> io::Result<()> {
+fn draw_lanes<B: Bound, W: Write>(
+    plot: &Plot<'_, B>,
+    words: Value<'_>,
+    writer: &mut W,
+) -> io::Result<()> {
     fill(writer, LANES, &[words])?;
     draw_points(plot, &plot.picture.bounded, DIAMOND, writer)?;
     fill(writer, STROKES, &[])?;
@@ -90,16 +99,16 @@ fn draw_lanes<W: Write>(plot: &Plot<'_>, words: Value<'_>, writer: &mut W) -> io
 }
 
 // All marks.
-pub(crate) fn draw_marks<W: Write>(
-    plot: &Plot<'_>,
+pub(crate) fn draw_marks<B: Bound, W: Write>(
+    plot: &Plot<'_, B>,
     words: Value<'_>,
     writer: &mut W,
 ) -> io::Result<()> {
     draw_lanes(plot, words, writer)?;
-    if let Some(rest) = plot.picture.exact_rest {
+    if let Some(rest) = plot.picture.exact_finding.verdict.rest() {
         draw_exact_rest(plot, rest, writer)?;
     }
-    if let Some(rest) = plot.picture.bounded_rest {
+    if let Some(rest) = plot.picture.bounded_finding.verdict.rest() {
         draw_bounded_rest(plot, rest, words, writer)?;
     }
     Ok(())

@@ -1,20 +1,21 @@
 // What is drawn, and where its instants and amounts stand.
 ghost use Rattle.std.specs.Prelude.{◌≤◌};
 
-use crate::drawings::Drawing;
 use crate::layout::{FOOT, HEIGHT, LEFT, WIDTH};
-use crate::pictures::{Picture, Point, demand};
+use crate::pictures::{Picture, Point};
+use crate::points::is_point;
+use crate::questions::Drawing;
 use crate::scales::scale;
-use bounds::{Bound, ExactSteps};
-use rows::Row;
+use bounds::Bound;
+use findings::Demand;
 
 // Amounts that pass the top of the picture go on upward as far as so many heights.
 const BEYOND: u32 = 64;
 
 // A drawing with what it shows, and the work at the top of the picture.
-#[derive(Clone, Copy)]
-pub(crate) struct Plot<'a> {
-    pub(crate) drawing: &'a Drawing<'a>,
+#[derive(Drop)]
+pub(crate) struct Plot<'a, B: Bound> {
+    pub(crate) drawing: &'a Drawing<'a, B>,
     pub(crate) picture: &'a Picture,
     pub(crate) top: u32,
 }
@@ -39,9 +40,22 @@ fn top(picture: &Picture, unit: u64) -> u32
     u32::try_from(top).unwrap_or(u32::MAX)
 }
 
-impl<'a> Plot<'a> {
+// The demand just after a test point, or just after 0, in parts: where the line through the two
+// instants behind it comes from; where the demand bends upward between those, that at the first of them.
+// From the window on nothing is drawn.
+fn risen<B: Bound>(demand: &Demand<'_, B>, at: u32) -> Option<u64> {
+    let here = demand.at(at)?;
+    let next = demand.next_point(at)?;
+    let first = demand.at(at.checked_add(1)?)?;
+    let second = demand.at(at.checked_add(2)?)?;
+    let line = first.saturating_sub(second.saturating_sub(first));
+    let bends = next - at == 1 && next < demand.window();
+    Some(if bends || line < here { first } else { line })
+}
+
+impl<'a, B: Bound> Plot<'a, B> {
     // The drawing on scales that suit it.
-    pub(crate) fn new(drawing: &'a Drawing<'a>, picture: &'a Picture) -> Self {
+    pub(crate) fn new(drawing: &'a Drawing<'a, B>, picture: &'a Picture) -> Self {
         let top = top(picture, u64::from(drawing.frame).max(1));
         Plot {
             drawing,
@@ -55,46 +69,25 @@ impl<'a> Plot<'a> {
         u64::from(work) * u64::from(self.drawing.frame)
     }
 
-    // The demand by the linear tail up to an instant, in parts.
-    pub(crate) fn bounded(&self, at: u32) -> u64 {
-        let drawing = self.drawing;
-        let own = self.parts(drawing.row.work);
-        demand(drawing.tail, drawing.frame, own, drawing.above, at)
-    }
-
-    // The same in exact steps.
+    // The demand in exact steps up to an instant, in parts.
     pub(crate) fn exact(&self, at: u32) -> u64 {
-        let drawing = self.drawing;
-        let own = self.parts(drawing.row.work);
-        demand(&ExactSteps, drawing.frame, own, drawing.above, at)
+        self.drawing.exact.at(at).unwrap_or(0)
     }
 
-    // What a row can demand by the linear tail just after an instant, in parts. After a corner it has
-    // grown by the work of one job; just after 0 it is on the line that it follows from there on.
-    fn amount_after(&self, row: &Row, at: u32) -> u64 {
-        let tail = self.drawing.tail;
-        let frame = self.drawing.frame;
-        if at == 0 {
-            let first = tail.amount(frame, row, 1);
-            if tail.next_corner(frame, row, 0) == Some(1) {
-                return first;
-            }
-            let growth = tail.amount(frame, row, 2).saturating_sub(first);
-            return first.saturating_sub(growth);
-        }
-        let amount = tail.amount(frame, row, at);
-        if tail.next_corner(frame, row, at - 1) == Some(at) {
-            return amount.saturating_add(self.parts(row.work));
-        }
-        amount
+    // The same by the bound.
+    pub(crate) fn bounded(&self, at: u32) -> u64 {
+        self.drawing.bounded.at(at).unwrap_or(0)
     }
 
-    // The demand by the linear tail just after an instant, in parts.
+    // The demand by the bound just after an instant, in parts. It rises after test points alone, and
+    // after 0.
     pub(crate) fn bounded_after(&self, at: u32) -> u64 {
-        let own = self.parts(self.drawing.row.work);
-        self.drawing.above.iter().fold(own, |sum, row| {
-            sum.saturating_add(self.amount_after(row, at))
-        })
+        let demand = &self.drawing.bounded;
+        if at == 0 || is_point(demand, at) {
+            risen(demand, at).unwrap_or(self.bounded(at))
+        } else {
+            self.bounded(at)
+        }
     }
 
     // Where an instant stands on the axis of time, in tenths.

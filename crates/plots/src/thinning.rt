@@ -2,9 +2,9 @@
 ghost use Rattle.std.specs.Prelude.{◌≡◌, ◌+◌, ◌≤◌, IfOk, OnOk};
 ghost use Rattle.std.specs.Ordering.{nat_cmp};
 ghost use Rattle.std.specs.BTreeSet.{IsOrdered, btree_set_len};
-ghost use Rattle.rows.specs.Times.{ceiling, horizon};
-ghost use Rattle.rows.specs.Counting.{window};
-ghost use Rattle.findings.specs.Points.{is_test_point};
+ghost use Rattle.rows.specs.Times.{ceiling};
+ghost use Rattle.findings.specs.Findings.{is_tested};
+ghost use Rattle.findings.specs.Lent.{lent_load, lent_window};
 ghost use Rattle.plots.specs.Thinning.{
   Draws,
   DrawsColumns,
@@ -14,9 +14,8 @@ ghost use Rattle.plots.specs.Thinning.{
   IsThinned,
 };
 
-use crate::points::next_point;
 use bounds::Bound;
-use rows::Row;
+use findings::Demand;
 use std::alloc::{AllocError, Global};
 use std::collections::BTreeSet;
 
@@ -48,23 +47,20 @@ fn keep(kept: &mut BTreeSet<u32>, window: u32, at: u32) -> Result<(), AllocError
 // The first test point of each column that has one.
 fn column_points<B: Bound>(
     alloc: Global,
-    bound: &B,
-    above: &[Row],
-    window: u32,
+    demand: &Demand<'_, B>,
 ) -> Result<BTreeSet<u32>, AllocError>
-    requires { window ≤ horizon }
-    ensures within { IfOk result (λ kept. DrawsWithin window kept) }
+    ensures within { IfOk result (λ kept. DrawsWithin (lent_window demand.now) kept) }
     ensures firsts { IfOk result (λ kept. DrawsColumns
-        (is_test_point (B.meaning bound.now) above.now window) window (ceiling window COLUMNS)
-        COLUMNS kept) }
+        (is_tested (lent_load demand.now) (lent_window demand.now)) (lent_window demand.now)
+        (ceiling (lent_window demand.now) COLUMNS) COLUMNS kept) }
     ensures few { IfOk result (λ kept. btree_set_len kept ≤ COLUMNS) }
 {
+    let window = demand.window();
     let width = column_width(window);
     let mut kept = BTreeSet::new(alloc);
     for column in 0..COLUMNS {
         let start = column * width;
-        if start < window {
-            let point = next_point(bound, above, start, window);
+        if let Some(point) = demand.next_point(start) {
             if point <= start + width {
                 keep(&mut kept, window, point)?;
             }
@@ -77,19 +73,18 @@ fn column_points<B: Bound>(
 // it on.
 fn keep_rest<B: Bound>(
     kept: &mut BTreeSet<u32>,
-    bound: &B,
-    above: &[Row],
-    window: u32,
+    demand: &Demand<'_, B>,
     rest: u32,
 ) -> Result<(), AllocError>
-    requires near { window ≤ horizon }
-    requires inside { DrawsWithin window kept.old }
+    requires { DrawsWithin (lent_window demand.now) kept.old }
     ensures decides { OnOk result
-        (DrawsRest (is_test_point (B.meaning bound.now) above.now window) window rest kept.new) }
+        (DrawsRest (is_tested (lent_load demand.now) (lent_window demand.now))
+        (lent_window demand.now) rest kept.new) }
     ensures more { OnOk result (DrawsMore kept.old kept.new) }
-    ensures within { OnOk result (DrawsWithin window kept.new) }
+    ensures within { OnOk result (DrawsWithin (lent_window demand.now) kept.new) }
     ensures few { OnOk result (btree_set_len kept.new ≤ btree_set_len kept.old + 3) }
 {
+    let window = demand.window();
     if rest == 0 || rest > window {
         return Ok(());
     }
@@ -97,31 +92,31 @@ fn keep_rest<B: Bound>(
         keep(kept, window, rest - 1)?;
     }
     keep(kept, window, rest)?;
-    let stop = next_point(bound, above, rest - 1, window);
-    keep(kept, window, stop)
+    match demand.next_point(rest - 1) {
+        Some(stop) => keep(kept, window, stop),
+        None => Ok(()),
+    }
 }
 
-/// The instants of a row's window that are drawn, in ticks, from 1 to the window: the window is cut
+/// The instants of a demand's window that are drawn, in ticks, from 1 to the window: the window is cut
 /// into columns, and the first test point of each column is kept (docs/RULES.md, Test points), and
 /// besides the window, each of the first rests that lies in it, the instant before it and the first
 /// test point from it on.
 pub fn instants<B: Bound>(
     alloc: Global,
-    bound: &B,
-    row: &Row,
-    above: &[Row],
+    demand: &Demand<'_, B>,
     rests: &[u32],
 ) -> Result<BTreeSet<u32>, AllocError>
     ensures thinned { IfOk result (IsThinned
-        (is_test_point (B.meaning bound.now) above.now (window row.now)) (window row.now) COLUMNS
+        (is_tested (lent_load demand.now) (lent_window demand.now)) (lent_window demand.now) COLUMNS
         rests.now) }
     ensures rising { IfOk result (IsOrdered nat_cmp) }
 {
-    let window = row.window();
-    let mut kept = column_points(alloc, bound, above, window)?;
+    let mut kept = column_points(alloc, demand)?;
     for rest in rests {
-        keep_rest(&mut kept, bound, above, window, *rest)?;
+        keep_rest(&mut kept, demand, *rest)?;
     }
+    let window = demand.window();
     keep(&mut kept, window, window)?;
     Ok(kept)
 }

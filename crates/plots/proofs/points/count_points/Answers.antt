@@ -1,12 +1,15 @@
 use Rattle.std.proofs.Common.{arith}
+use Rattle.findings.specs.Findings.{is_tested}
+use Rattle.findings.specs.Lent.{lent_load, lent_window}
 use Rattle.plots.proofs.Walk.{count_next}
 use Rattle.plots.proofs.points.count_points.Goals as goal
 
-pub loop-at-preserved : goal.loop-at-preserved
-loop-at-preserved g c =
-    let next = c.next_point-at.ensures in
+pub loop-next-preserved : goal.loop-next-preserved
+loop-next-preserved g c =
+    let d = c.args.demand.now in
+    let next = c.in-Some.ensures in
     record {
       within = next.within;
-      few = omega (arith, c.loop-at.invariant.few, next.after);
-      counted = count_next _ _ _ _ _ next c.loop-at.invariant.counted;
+      few = omega (arith, c.loop-next.invariant.few, next.after);
+      counted = count_next (is_tested (lent_load d) (lent_window d)) c.loop-next.at (lent_window d) c.in-Some.next c.loop-next.points next c.loop-next.invariant.counted;
     }
