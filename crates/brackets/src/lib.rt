@@ -10,5 +10,5 @@ mod speeds;
 
 pub use accuracies::least_accuracy;
 pub use counting::{Counts, count_both};
-pub use responding::response_time;
+pub use responding::{response_time, response_times};
 pub use slower::slow_rest;

@@ -16,6 +16,6 @@ pub use frames::{Frame, FrameNumbers};
 pub use judging::{Flaw, frame_flaws, row_flaws};
 pub use ranks::{check_rank, put_in, take_out};
 pub use refusals::{Fault, Refusal};
-pub use tables::{Table, check_table};
+pub use tables::{Table, check_table, judge_rows};
 pub use tasks::{Numbers, Row};
 pub use verdicts::{Finding, Verdict, count_met};

@@ -1,13 +1,13 @@
 // A table: rows in rank order on a frame, judged once.
-ghost use Rattle.std.specs.Prelude.{IsTrue, ◌≡◌, ◌+◌, ◌<◌, ◌≤◌, [], ◌∷◌, ◌++◌, length, OnOk};
+ghost use Rattle.std.specs.Prelude.{IsTrue, ◌≡◌, ◌+◌, ◌<◌, ◌≤◌, [], ◌∷◌, ◌++◌, length, map, IfOk, OnOk};
 ghost use Rattle.rows.specs.Answers.{answer, checked};
 ghost use Rattle.rows.specs.Books.{flawless_checks};
-ghost use Rattle.rows.specs.Judging.{table_flaw_check, table_flaw_checks};
+ghost use Rattle.rows.specs.Judging.{plain, row_flaws, rows_of, table_flaw_check, table_flaw_checks};
 ghost use Rattle.rows.specs.Times.{most_rows};
 
 use crate::counting::MOST_ROWS;
 use crate::frames::Frame;
-use crate::judging::{Flaw, frame_flaws};
+use crate::judging::{Flaw, frame_flaws, row_flaws};
 use crate::ranks::{check_rank, put_in, take_out};
 use crate::refusals::{Fault, Refusal};
 use crate::tasks::{Numbers, Row};
@@ -69,6 +69,23 @@ pub fn check_table(flaws: &[Flaw], table: &[Numbers]) -> Result<(), Fault>
     check_numbers(flaws, table)
 }
 
+/// The rows of numbers that nobody has judged, in rank order, with no frame. Refused with 9, full
+/// table, at 0 for more than 32; then with 4, idle row, 5, no window, 6, late deadline, and 7, long
+/// period, at the smallest rank that is so (docs/REFUSALS.md).
+pub fn judge_rows(numbers: &[Numbers]) -> Result<ArrayVec<Row, MOST_ROWS>, Fault>
+    ensures answered { answer (λ rows. map plain rows.items) result
+        ≡ checked (flawless_checks row_flaws numbers.now) numbers.now }
+    ensures made { IfOk result (λ rows. rows.items ≡ rows_of numbers.now) }
+    ensures rows { OnOk result (map plain (rows_of numbers.now) ≡ numbers.now) }
+{
+    check_table(&row_flaws(), numbers)?;
+    let mut rows = ArrayVec::new();
+    for row in numbers {
+        rows.push(row.judge(0).unwrap());
+    }
+    Ok(rows)
+}
+
 impl Table {
     ghost use Rattle.rows.specs.Answers.{answer, checked, first_refusal, refusal};
     ghost use Rattle.rows.specs.Books.{IsJudged, book, plain_book, judge_checks, rows_checks, put_checks};
@@ -77,7 +94,7 @@ impl Table {
     ghost use Rattle.rows.specs.Ranks.{rank_checks};
     ghost use Rattle.rows.specs.Times.{most_rows};
     ghost use Rattle.std.specs.List.{insert, remove};
-    ghost use Rattle.std.specs.Prelude.{IsTrue, ◌≡◌, ◌+◌, ◌-◌, ◌<◌, [], ◌∷◌, ◌++◌, map, length, slice_index_or};
+    ghost use Rattle.std.specs.Prelude.{IsTrue, ◌≡◌, ◌+◌, ◌-◌, ◌<◌, [], ◌∷◌, ◌++◌, map, length, take, slice_index_or};
     ghost use Rattle.std.specs.Prelude.{IfOk, OnOk, OnErr, MatchResult};
 
     /// A table of no row.
@@ -161,6 +178,16 @@ impl Table {
             frame: self.frame,
             rows,
         }
+    }
+
+    /// The table of the rows above a rank: of all rows where the rank is past the last, and of none at
+    /// rank 1 and at 0.
+    pub fn above(&self, rank: usize) -> Table
+        ensures { result ≡ book self.now.frame (take (rank - 1) self.now.rows) }
+    {
+        let mut above = self.copy();
+        above.rows.truncate(rank.saturating_sub(1));
+        above
     }
 
     // Puts a row in below the others.
