@@ -96,12 +96,12 @@ module _ (m : Meaning) (b : Book) (rank : ℕ) (n : Numbers) (r : Row) (judged :
         ∙ passes_on (not (is_rank (length b.rows + 1) rank)) NoRank 0 (checked (last ∷ []) y) (is_within (length b.rows + 1) rank low high)
 
     module _ (rows : List Row) (with : rows ≡ insert b.rows (rank - 1) r) where
-      -- it is admitted where with it no row misses
+      -- a newcomer is admitted where with it no row misses
       pub admits : position is_miss (findings_of m b.frame rows) ≡ None → gives done ≡ checked (checks_of m b (Admit rank n)) done
       admits none =
           sym (last_check done ∙ ap (λ rs. checked (check_each is_miss Overload (findings_of m b.frame rs) ∷ []) done) (newcomer_is ∙ sym with) ∙ ap (λ o. refuses_at Overload (option_map (λ i. i + 1) o) (gives done)) none)
 
-      -- and refused where one does
+      -- a newcomer is refused where with it a row misses
       pub overloads : (i : ℕ) → position is_miss (findings_of m b.frame rows) ≡ Some i → refuses Overload (i + 1) ≡ checked (checks_of m b (Admit rank n)) done
       overloads i some =
           sym (last_check done ∙ ap (λ rs. checked (check_each is_miss Overload (findings_of m b.frame rs) ∷ []) done) (newcomer_is ∙ sym with) ∙ ap (λ o. refuses_at Overload (option_map (λ i. i + 1) o) (gives done)) some)
@@ -167,7 +167,7 @@ module _ {B : Type 0} (m : Meaning) (bound : B) (k : Kept) (keeps : Keeps m k) (
   found_with : kept_findings new ≡ findings_of m k.table.frame (insert k.table.rows (rank - 1) r)
   found_with = counted ∙ ap (λ b. findings_of m b.frame b.rows) with
 
-  -- then the row is admitted
+  -- where with the newcomer no row misses, the bench with it is that of an admission
   pub admits_so : position is_miss (kept_findings new) ≡ None → Does m (Admit rank n) (seen bound k) (seen bound new) Done
   admits_so none =
       does_so m (Admit rank n) (seen bound k) (seen bound new) Done done
@@ -175,7 +175,7 @@ module _ {B : Type 0} (m : Meaning) (bound : B) (k : Kept) (keeps : Keeps m k) (
       refl
       (kept_is m bound new (kept_with none) ∙ ap (bench m bound) (with ∙ ap (book k.table.frame) (sym (newcomer_is m k.table rank n r enters.judged))))
 
-  -- and where one misses, it is refused for the first that does
+  -- where with the newcomer a row misses, it is refused for the first that does
   pub overloads_so : (i : ℕ) → position is_miss (kept_findings new) ≡ Some i
       → Does m (Admit rank n) (seen bound k) (seen bound k) (Refused (record { refusal = Overload; at = i + 1 }))
   overloads_so i some =

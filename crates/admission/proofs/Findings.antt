@@ -39,7 +39,7 @@ module _ (m : Meaning) (h : FrameNumbers) where
       let count : length (r ∷ ys) ≡ suc (length ys) = refl in
       ap is_met (sym (finding_there xs ys r d)) ∙ there (length xs) d (omega (arith, length_findings_below m h [] (xs ++ r ∷ ys), length-append xs (r ∷ ys), count))
 
-  -- and where each row meets, all findings are met
+  -- where each row of a table meets, all its findings are met
   pub all_met : (rows : List Row) → EachMeets rows → AllPass is_met (findings_of m h rows)
   all_met [] each = All-nil (λ f. is_met f ≡ true)
   all_met (s ∷ rows) each = λ k d within.

@@ -45,13 +45,13 @@ finer_admit k k' b rank n low order stand admits =
     ∙ sym (passed_first (entry_checks b rank n) (overload_check m' b rank n ∷ []) tt tt passed.0 done)
     ∙ places_pass_on is_miss (λ i. i + 1) (findings_of m' b.frame rows) Overload (gives done) none
 
--- so it is between benches whose books have come to agree
+-- of benches whose books have come to agree the more accurate admits what the other does
 pub finer_admits : FinerAdmits
 finer_admits k k' calls calls' low order same rank n admits =
     subst (λ b. (step (linear_tail k') b (Admit rank n)).1 ≡ gives done) same
     (finer_admit k k' (book_after (linear_tail k) calls) rank n low order (runs_sound (linear_tail k) calls).stand admits)
 
--- and no row rests later
+-- of benches whose books have come to agree no row rests later by the more accurate
 pub finer_rests : FinerRests
 finer_rests k k' calls calls' low order same xs ys r split =
     let b = book_after (linear_tail k) calls in

@@ -46,13 +46,13 @@ module _ (m : Meaning) (h : FrameNumbers) where
       let same = ap (λ fs. get_or fs k d) (findings_append m h [] xs (r ∷ ys)) ∙ get_or_append_left (findings_of m h xs) there d k within in
       ap is_met (sym same) ∙ not-false (is_met (get_or all k d)) before
 
-  -- and that row misses
+  -- where a first finding is a miss, its row misses
   misses_there : (xs ys : List Row) (r : Row) → position is_miss (findings_of m h (xs ++ r ∷ ys)) ≡ Some (length xs) → (row_finding m h r xs).rest ≡ None
   misses_there xs ys r first =
       let f = row_finding m h r xs in
       no_rest f.rest f.points (ap is_miss (sym (finding_there m h xs ys r f)) ∙ (position-Some is_miss (findings_of m h (xs ++ r ∷ ys)) (length xs) f first).1)
 
-  -- so the place of the first miss names a row
+  -- the place of the first miss names a row that misses
   names_miss : Laws m → (rows : List Row) (i : ℕ) → StandOn h.ticks rows → position is_miss (findings_of m h rows) ≡ Some i → NamesMiss m h rows (i + 1)
   names_miss laws rows i stand first =
       let within : i < length rows = omega (arith, (position-Some is_miss (findings_of m h rows) i (record { rest = None; points = 0 }) first).0, length_findings_below m h [] rows) in
@@ -74,7 +74,7 @@ module _ (m : Meaning) (h : FrameNumbers) where
         slow = (brackets laws h parts.0 above (stands_before h.ticks rows above (parts.0 ∷ below) stand parts.1)).misses misses;
       }
 
-  -- and where the check of the findings refuses, it names one
+  -- where the check of the findings refuses, the rank told names a row that misses
   refusal_names : Laws m → (rows : List Row) (at : ℕ) (y : Told) → StandOn h.ticks rows → refuses Overload at ≡ checked (check_each is_miss Overload (findings_of m h rows) ∷ []) y → NamesMiss m h rows at
   refusal_names laws rows at y stand refused = by (position is_miss (findings_of m h rows)) refl refused
     where

@@ -29,7 +29,7 @@ module _ {B : Type 0} (meaning : B → Meaning) (bound : B) (calls : List Call) 
   pub becomes_more : after ≡ bench (meaning bound) bound (book_after (meaning bound) (take (i + 1) calls))
   becomes_more = does_so.becomes ∙ ap (bench (meaning bound) bound) (sym (ap (book_after (meaning bound)) (take_more calls i d within) ∙ book_after_push (meaning bound) (take i calls) (get_or calls i d)))
 
-  -- and the reply to it is the answer at its place
+  -- the reply to a call is the answer at its place
   pub replies_more : answer_of reply ≡ get_or (answers_to (meaning bound) calls) (i - 0) (answer_of reply)
   replies_more =
       let place : i ≡ i - 0 = omega arith in

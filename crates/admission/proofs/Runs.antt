@@ -12,7 +12,7 @@ module _ (m : Meaning) where
   book_from_append b [] ys = refl
   book_from_append b (c ∷ xs) ys = book_from_append (step m b c).0 xs ys
 
-  -- and so do their answers
+  -- the answers to more calls go on from the book that the first have come to
   pub answers_from_append : (b : Book) (xs ys : List Call) → answers_from m b (xs ++ ys) ≡ answers_from m b xs ++ answers_from m (book_from m b xs) ys
   answers_from_append b [] ys = refl
   answers_from_append b (c ∷ xs) ys = ap (λ more. (step m b c).1 ∷ more) (answers_from_append (step m b c).0 xs ys)
@@ -26,6 +26,6 @@ module _ (m : Meaning) where
   pub book_after_push : (calls : List Call) (c : Call) → book_after m (calls ++ c ∷ []) ≡ (step m (book_after m calls) c).0
   book_after_push calls c = book_from_append first_book calls (c ∷ [])
 
-  -- there are as many answers as calls
+  -- to a list of calls there are as many answers as calls
   pub length_answers_to : (calls : List Call) → length (answers_to m calls) ≡ length calls
   length_answers_to calls = length_answers_from first_book calls

@@ -42,7 +42,7 @@ pub record Sound (m : Meaning) (b : Book) : Type 0 where
 pub step_given : (m : Meaning) (b : Book) (c : Call) (x : Told) → gives x ≡ checked (checks_of m b c) (told m b c) → step m b c ≡ (once_done b c, gives x)
 step_given m b c x given = rw (sym given) refl
 
--- and one that is refused the book as it was
+-- a call that is refused leaves the book as it was, and the refusal
 pub step_refused : (m : Meaning) (b : Book) (c : Call) (n : Refusal) (at : ℕ) → refuses n at ≡ checked (checks_of m b c) (told m b c) → step m b c ≡ (b, refuses n at)
 step_refused m b c n at refused = rw (sym refused) refl
 
@@ -79,7 +79,7 @@ stands_with b rank n stand entry =
     let rows : AllPass (is_on_frame b.frame.ticks) (front ++ entry.row ∷ back) = All-append On front (entry.row ∷ back) (All-take On (rank - 1) b.rows stand.on) rest in
     record { frame = stand.frame; on = subst (λ new. AllPass (is_on_frame b.frame.ticks) (front ++ (new ++ back))) (sym entry.made) rows }
 
--- and there is one more of them
+-- with a newcomer that enters there is one row more
 pub length_with : (b : Book) (rank : ℕ) (n : Numbers) → Enters b rank n → length (with_newcomer rank n b.rows) ≡ length b.rows + 1
 length_with b rank n entry =
     let front = take (rank - 1) b.rows in
@@ -99,7 +99,7 @@ still_met m h x xs ys (r ∷ rows) met =
     All-cons Met (row_finding m h r (xs ++ ys)) (findings_below m h ((xs ++ ys) ++ r ∷ []) rows) here
     (subst (λ a. AllPass is_met (findings_below m h a rows)) (sym (append_assoc xs ys (r ∷ []))) (still_met m h x xs (ys ++ r ∷ []) rows later))
 
--- and so does every row of a table
+-- every row of a table that meets still meets with one above it taken away
 met_without : (m : Meaning) (h : FrameNumbers) (x : Row) (xs ys : List Row) → AllPass is_met (findings_of m h (xs ++ x ∷ ys)) → AllPass is_met (findings_of m h (xs ++ ys))
 met_without m h x xs ys met =
     let Met : Found → Type 0 = λ f. is_met f ≡ true in
@@ -132,7 +132,7 @@ without_sound m b rank sound low high =
       meet = met_without m b.frame parts.0 front back (subst (λ rows. AllPass is_met (findings_of m b.frame rows)) parts.1 sound.meet);
     }
 
--- and with a newcomer that enters, where every row meets
+-- what holds of a book holds with a newcomer that enters, where every row meets
 pub with_sound : (m : Meaning) (b : Book) (rank : ℕ) (n : Numbers) → Sound m b → Enters b rank n → AllPass is_met (findings_of m b.frame (with_newcomer rank n b.rows)) → Sound m (book b.frame (with_newcomer rank n b.rows))
 with_sound m b rank n sound entry met =
     record { stand = stands_with b rank n sound.stand entry; few = omega (arith, length_with b rank n entry, entry.room); meet = met }
@@ -171,7 +171,7 @@ step_sound m b c sound = by (checked (checks_of m b c) (told m b c)) refl
     by (gives x) given = subst (λ s. Sound m s.0) (sym (step_given m b c x given)) (done_sound m b c x (told m b c) given sound)
     by (refuses n at) refused = subst (λ s. Sound m s.0) (sym (step_refused m b c n at refused)) sound
 
--- so does every list of calls
+-- every list of calls keeps the book sound
 pub book_from_sound : (m : Meaning) (b : Book) (calls : List Call) → Sound m b → Sound m (book_from m b calls)
 book_from_sound m b [] sound = sound
 book_from_sound m b (c ∷ calls) sound = book_from_sound m (step m b c).0 calls (step_sound m b c sound)

@@ -78,7 +78,7 @@ FinerAdmits =
     → (step (linear_tail k) (book_after (linear_tail k) calls) (Admit rank n)).1 ≡ gives done
     → (step (linear_tail k') (book_after (linear_tail k') calls') (Admit rank n)).1 ≡ gives done
 
--- and by it no row rests later
+-- by the more accurate of two linear tails whose books agree no row rests later
 abbrev pub FinerRests : Type 0
 FinerRests =
     (k k' : ℕ) (calls calls' : List Call) → 1 ≤ k → k ≤ k'

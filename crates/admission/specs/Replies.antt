@@ -33,7 +33,7 @@ abbrev pub as_done : Result (Unit {0}) Fault → Reply
 as_done (Ok u) = Done
 as_done (Err fault) = Refused fault
 
--- and where it tells a row with its finding
+-- the reply that a result with a row and its finding is
 abbrev pub as_found : Result (Row × Finding) Fault → Reply
 as_found (Ok (row, finding)) = FoundRow row finding
 as_found (Err fault) = Refused fault

@@ -4,7 +4,7 @@ use scripts::run;
 use std::io::ErrorKind;
 use std::test::Fail;
 
-// Its last line has no end.
+// A script whose last line has no end.
 const SCRIPT: &[u8] =
     b"linear 0\nexact\n\nframe 12\r\nadmit 1 1 4 4 0\ninquire 1\nleave\ndismiss 2";
 

@@ -25,6 +25,6 @@ amount_small {m} laws h r t ask =
     let known = asked_tells h r t ask in
     at_most_twice m.accuracy (m.amount h r t) (h * steps r t) laws.some_accuracy (laws.close h r t ask) (steps_fit h r t known.frame known.near)
 
--- so every one fits 64 bits
+-- every amount that is asked for fits 64 bits
 pub amount_fits : {m : Meaning} → Laws m → (h : ℕ) (r : Row) (t : ℕ) → is_asked h r t ≡ true → m.amount h r t < 2 ^ 64
 amount_fits laws h r t ask = omega (arith, amount_small laws h r t ask)

@@ -21,7 +21,7 @@ steps_floor m laws h r t x low u later ask =
     let grown = mul-le h (steps r t) h (steps r u) (omega arith) (steps_grow r t u later) in
     omega (arith, low, grown, laws.covers h r u ask)
 
--- so the exact steps themselves are a floor by every bound
+-- the exact steps themselves are a floor of every lawful bound
 pub own_steps : (m : Meaning) → Laws m → (h : ℕ) (r : Row) (t : ℕ) → IsFloor m h r t (own_floor exact_steps h r t)
 own_steps m laws h r t =
     steps_floor m laws h r t (own_floor exact_steps h r t) (cond_both (leb t horizon) (h * steps r t) 0 (λ x. x ≤ h * steps r t) (λ _. omega arith) (λ _. omega arith))

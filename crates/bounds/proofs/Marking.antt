@@ -103,7 +103,7 @@ module _ (p : ℕ → Bool) (e : ℕ) where
       → Marked (up_to e p) s u old new
   marked_to u marked first past order = marked_on u marked (λ i from low high. up_to_first first i (omega arith) high) order
 
-  -- and where there is none after v, every flag is as it should be
+  -- flags set as far as v are as they should be, where there is no corner after v
   pub marked_last : {s t v : ℕ} {old new : List Bool} → Marked (up_to e p) s t old new → ((i : ℕ) → v < i → i ≤ e → p i ≡ false)
       → v < t → t ≤ s + length old + 1 → Marks (up_to e p) s old new
   marked_last {s} {old = old} marked none past order =

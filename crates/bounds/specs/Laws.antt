@@ -10,7 +10,7 @@ use Rattle.bounds.specs.Meaning.{Meaning, finest, is_asked}
 pub record Laws (m : Meaning) : Type 0 where
   -- the amount is nowhere below the exact steps
   pub covers : (h : ℕ) (r : Row) (t : ℕ) → IsTrue (is_asked h r t) → h * steps r t ≤ m.amount h r t
-  -- and at most (k + 1) / k times as large
+  -- the amount is at most (k + 1) / k times the exact steps, k the accuracy
   pub close : (h : ℕ) (r : Row) (t : ℕ) → IsTrue (is_asked h r t)
       → m.accuracy * m.amount h r t ≤ (m.accuracy + 1) * (h * steps r t)
   -- the accuracy runs from 1 to the greatest

@@ -65,7 +65,7 @@ module _ {m : Meaning} (laws : Laws m) (h : ℕ) (r : Row) (above : List Row) (s
       sym (leb_scaled k (demand (load m h r.work above) t) (h * t) laws.some_accuracy)
       ∙ le-leb (k * demand (load m h r.work above) t) (k * (h * t)) (omega (arith, demand_close))
 
--- so every finding by a lawful bound is bracketed
+-- every finding by a lawful bound is bracketed
 pub brackets : {m : Meaning} → Laws m → Brackets m
 unfolding first_rest exact_rest rest_at_speed
 brackets {m} laws h r above stands =

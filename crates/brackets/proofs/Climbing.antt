@@ -28,7 +28,7 @@ steps_small r t near =
 abbrev pub most_demand : ℕ
 most_demand = most_rows * most_steps
 
--- it does not
+-- the demand of a row and of those above it does not pass as many times that as a table has rows
 pub demand_small : (r : Row) (above : List Row) (t : ℕ) → length above ≤ most_above → t ≤ horizon → exact_demand r above t ≤ most_demand
 demand_small r above t few near =
     let sums = sum_by-le (λ s. steps s t) most_steps above (λ k d within. steps_small (get_or above k d) t near) in
@@ -39,7 +39,7 @@ demand_small r above t few near =
 pub product_fits : (b n : ℕ) → b ≤ finest + 1 → n ≤ most_demand → b * n < 2 ^ 64
 product_fits b n low small = let product = mul-le b n (finest + 1) most_demand low small in omega arith
 
--- and the instant by which it is served fits 32 bits
+-- the instant by which such a demand is served at the lower speed fits 32 bits
 pub served_fits : (a b n : ℕ) → 1 ≤ a → b ≤ 2 * a → n ≤ most_demand → ceiling (b * n) a < 2 ^ 32
 served_fits a b n some near small =
     let twice = mul-le b n (2 * a) n near (omega arith) in
@@ -66,7 +66,7 @@ module _ (a b : ℕ) (r : Row) (above : List Row) where
       lt-leb (b * exact_demand r above i) (a * i) (omega (arith, ceiling_tight (b * exact_demand r above t) a some)))
       (cases_lt i t)
 
-  -- and where that is served by t, the first rest is t
+  -- where a row rests nowhere before t, and its demand up to t is served by t, the first rest is t
   pub rests_first : (t : ℕ) → 1 ≤ a → 1 ≤ t → t ≤ window r → RestsNowhereBefore t → served t ≤ t → Some t ≡ rest_at_speed a b r above
   unfolding rest_at_speed
   rests_first t some late within none early =

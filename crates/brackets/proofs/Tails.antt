@@ -20,13 +20,13 @@ module _ (k k' : ℕ) (order : k ≤ k') (h : ℕ) (r : Row) (t : ℕ) where
       let begin = mul-le (k - 1) r.period (k' - 1) r.period (omega arith) (omega arith) in
       le-leb (t + r.jitter) ((k' - 1) * r.period) (omega (arith, leb-true (t + r.jitter) ((k - 1) * r.period) before))
 
-  -- so its amount is nowhere larger
+  -- the amount of a more accurate tail is nowhere larger
   finer_amount : h / r.period * r.period ≡ h → (linear_tail k').amount h r t ≤ (linear_tail k).amount h r t
   finer_amount divides =
       cond_both (is_before_tail k r t) (h * steps r t) (line h r t) (λ x. (linear_tail k').amount h r t ≤ x)
       (λ before. rw (begins_later before) (omega arith)) (λ _. below_line k' h r t divides)
 
--- and what rests by a tail rests by every more accurate one
+-- a row that rests by a tail rests by every more accurate one, no later
 pub finer_tails : FinerIsNoLater
 unfolding first_rest
 finer_tails k k' h r above _ order stands =

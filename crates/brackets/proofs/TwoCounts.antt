@@ -32,7 +32,7 @@ module _ (r : Row) (above : Book) where
   pub exact_is : (f : Finding) → gives (tells f) ≡ checked (question_checks r above) (row_finding exact_steps above.frame r above.rows) → IsJudged above → verdict_rest f.verdict ≡ exact_rest r above.rows
   exact_is f answered judged = ap (λ x. x.rest) (given_is (question_checks r above) _ _ answered) ∙ exact_rest_is above.frame r above.rows judged.frame.ticks
 
-  -- and that by a lawful bound lies between it and the one at the lower speed
+  -- the first rest by a lawful bound lies between the exact one and the one at the lower speed
   pub between : {m : Meaning} → Laws m → (f : Finding) → gives (tells f) ≡ checked (question_checks r above) (row_finding m above.frame r above.rows) → IsJudged above → LiesBetween m.accuracy r above.rows (verdict_rest f.verdict)
   between {m} laws f answered judged =
       let is = ap (λ x. x.rest) (given_is (question_checks r above) _ _ answered) in

@@ -35,7 +35,7 @@ pub record LiesBetween (k : ℕ) (r : Row) (above : List Row) (bounded : Option 
   -- a row that misses by the bound misses at that speed
   pub misses : bounded ≡ None → slow_rest k r above ≡ None
 
--- so does every first rest by the bound, of any row below any others that stand on a frame
+-- every first rest by the bound lies so between two counts: of any row below any others that stand on a frame
 abbrev pub Brackets : Meaning → Type 0
 Brackets m =
     (h : FrameNumbers) (r : Row) (above : List Row) → StandOn h.ticks above

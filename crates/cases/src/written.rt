@@ -100,7 +100,7 @@ fn rows_that_are_refused(rt: HostRuntime) {
     }
 }
 
-// So many rows and findings of a leaf and bytes of room, and the verdict and points of a finding.
+// How many rows and findings a leaf has and bytes a buffer; and the verdict and points of a finding.
 type Filed = (usize, usize, usize, Verdict, u32);
 
 // What such a leaf answers to the finding in so many bytes, and whether leaf and buffer stay.

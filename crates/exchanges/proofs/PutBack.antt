@@ -45,7 +45,7 @@ inquire_leaves m b rank = by (checked (checks_of m b (Inquire rank)) (told m b (
     by (gives x) given = ap (λ s. s.0) (step_given m b (Inquire rank) x given)
     by (refuses n at) refused = ap (λ s. s.0) (step_refused m b (Inquire rank) n at refused)
 
--- so the bench that is inquired is that of its bound and book
+-- a bench that is inquired is that of its bound and book
 pub kept_is : {B : Type 0} (m : Meaning) (rank : ℕ) (now : Held B) (reply : Reply) → Does m (Inquire rank) now now reply → now ≡ bench m now.bound now.book
 kept_is m rank now reply does = does.becomes ∙ ap (bench m now.bound) (inquire_leaves m now.book rank)
 
@@ -121,7 +121,7 @@ module _ (m : Meaning) (b : Book) (rank : ℕ) (r : Row) (there : StandsAt rank 
       let place = length-take-le (rank - 1) b.rows (omega (arith, there.high)) in
       there.split ∙ sym (ap₂ (λ xs ys. xs ++ r ∷ ys) (take_at front back (rank - 1) place) (drop_at front back (rank - 1) place))
 
-  -- it stands on the frame
+  -- the row that is put in again stands on the frame
   on_frame : AllPass (is_on_frame b.frame.ticks) b.rows → is_on_frame b.frame.ticks r ≡ true
   on_frame on =
       let place = length-take-le (rank - 1) b.rows (omega (arith, there.high)) in
@@ -164,7 +164,7 @@ module _ {B : Type 0} (meaning : B → Meaning) (old alone : Held B) (rank : ℕ
       → Does (meaning old.bound) (Admit rank n) (bench (meaning old.bound) old.bound (without_it rank old.book)) new answer
   admits_there n now new answer same does = subst (λ x. Does (meaning x.bound) (Admit rank n) x new answer) (same ∙ alone_is) does
 
-  -- its refusal is that of an exchange
+  -- what an admission without the row refuses is the refusal of an exchange
   pub answered : (n : Numbers) (new : Held B) (result : Result (Unit {0}) Fault) → Does (meaning alone.bound) (Admit rank n) alone new (as_done result)
       → refusal result ≡ first_refusal (exchange_checks (meaning old.bound) old.book rank n)
   answered n new result does =
@@ -195,7 +195,7 @@ pub where_refused : {P X : Type 0} (r : Result X Fault) → true ≡ is_err r �
 where_refused (Ok x) refused holds = cc
 where_refused (Err fault) refused holds = holds
 
--- and what holds at all
+-- what holds at all holds on a refusal
 pub on_refusal : {P X : Type 0} (r : Result X Fault) → P → OnErr r P
 on_refusal (Ok x) holds = tt
 on_refusal (Err fault) holds = holds

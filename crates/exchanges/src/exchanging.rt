@@ -26,7 +26,7 @@ pub fn exchange<B: Bound>(bench: &mut Bench<B>, rank: usize, numbers: Numbers) -
     bench.dismiss(rank)?;
     let answer = bench.admit(rank, numbers);
     if answer.is_err() {
-        // It met with all others before, so it is admitted back.
+        // With the old row all others met, so it is admitted back.
         bench.admit(rank, old.numbers()).unwrap();
     }
     answer

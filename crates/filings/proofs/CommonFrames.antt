@@ -28,7 +28,7 @@ module _ (table : List Numbers) (i : ℕ) (d : Numbers) (within : i < length tab
       let both = and_parts _ _ (sym (list_all_more (λ n. eqb (m % n.period) 0) table i d within) ∙ all) in
       (both.0, eqb-true (m % period) 0 both.1)
 
-  -- so the common frame of one period more is joined from that of those before and this one
+  -- the common frame of one period more is joined from that of the periods before and this one
   pub frame_more : (l : ℕ) → IsJoined h period l → IsCommonFrame (take (i + 1) table) l
   frame_more l joined = record {
     frame = joined.frame;
@@ -43,7 +43,7 @@ module _ (table : List Numbers) (i : ℕ) (d : Numbers) (within : i < length tab
           let here : n.period ∣ l = dvd_trans n.period (dvd_of_mod-eq-zero n.period (eqb-true (h % n.period) 0 both.0)) (dvd_of_mod-eq-zero h joined.first) in
           and_from _ _ (eq-eqb (l % n.period) 0 (mod-eq-zero_of_dvd n.period here)) (kept ns both.1)
 
-  -- and where none can be joined, the table has none
+  -- where no frame can be joined with a period, the table has none
   pub none_more : CannotBeJoined h period → HasNoFrame table
   none_more cannot m low near =
       is_false (is_common table m)

@@ -76,7 +76,7 @@ module _ (a b g : ℕ) (some : 1 ≤ a) (divides : DividesBoth a b g) where
       at zero none = absurd (omega (arith, none, some))
       at (suc n) none = omega arith
 
-  -- and where it is, no number up to the horizon is a common multiple
+  -- where the joined multiple is above the horizon, no number up to there is a common multiple
   pub never_joined : horizon < joined → CannotBeJoined a b
   never_joined far m low near of_a of_b =
       let least : joined ≤ m = le_of_dvd (omega arith) (dvd_of_mod-eq-zero joined (divides_each m of_a of_b)) in

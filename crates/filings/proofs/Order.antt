@@ -47,6 +47,6 @@ module _ (frame : Option FrameNumbers) (accuracy : Option ℕ) (table : List Num
       pub table_refused : {C D : Type 0} (n : Refusal) (at : ℕ) (s : C) → refuses n at ≡ checked (table_checks frame table) s → (z : D) → refuses n at ≡ checked (filing_checks frame accuracy table) z
       table_refused n at s refused z = refuses_any (table_checks frame table) n at s refused z ∙ table_left x y accurate z
 
-      -- and where nothing is, all is passed
+      -- where nothing is refused of the table, all checks are passed
       pub table_given : {C D : Type 0} (r s : C) → gives r ≡ checked (table_checks frame table) s → (z : D) → gives z ≡ checked (filing_checks frame accuracy table) z
       table_given r s given z = gives_any (table_checks frame table) r s given z ∙ table_left x y accurate z

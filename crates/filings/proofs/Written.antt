@@ -70,7 +70,7 @@ module _ {p q : Phase} {old now : List ℕ} (rs : List Row) (empty : rows_in p �
       by (Ok u) given = refl
       by (Err fault) given = cc
 
-  -- and once it is filed, all are
+  -- once one row more is filed, all rows up to it are
   pub rows_taken : {s : Phase} {new : List ℕ} (more : List Row) (answered : Result (Unit {0}) Fault) (u : Unit {0}) → answered ≡ Ok u → OnOk answered (Files q now (row r) s new) → more ≡ rs ++ r ∷ [] → FilesAll p old (map row more) s new
   rows_taken {s = s} {new = new} more answered u is filed are =
       let one : Files q now (row r) s new = subst (λ a. OnOk a (Files q now (row r) s new)) is filed in

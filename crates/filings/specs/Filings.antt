@@ -20,15 +20,15 @@ pub record Filed : Type 0 where
 abbrev pub filed : FrameNumbers → ℕ → List Row → Filed
 filed h k rows = record { frame = h; accuracy = k; rows = rows }
 
--- its findings by a bound
+-- the findings of a filing by a bound
 abbrev pub findings_by : Meaning → Filed → List Found
 findings_by m f = findings_of m f.frame f.rows
 
--- in exact steps
+-- the findings of a filing in exact steps
 abbrev pub exact_findings : Filed → List Found
 exact_findings f = findings_by exact_steps f
 
--- and by the linear tail
+-- the findings of a filing by the linear tail
 abbrev pub bounded_findings : Filed → List Found
 bounded_findings f = findings_by (linear_tail f.accuracy) f
 

@@ -20,7 +20,7 @@ pub record IsCommonFrame (table : List Numbers) (h : ℕ) : Type 0 where
   pub common : IsTrue (is_common table h)
   pub each : (m : ℕ) → IsTrue (is_common table m) → m % h ≡ 0
 
--- there is none: no number from 1 to the horizon is a common multiple of the periods
+-- a table has no common frame: no number from 1 to the horizon is a common multiple of the periods
 abbrev pub HasNoFrame : List Numbers → Type 0
 HasNoFrame table = (m : ℕ) → 1 ≤ m → m ≤ horizon → is_common table m ≡ false
 

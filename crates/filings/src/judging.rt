@@ -6,7 +6,7 @@ ghost use Rattle.rows.specs.Judging.{plain, rows_of};
 ghost use Rattle.filings.specs.Checks.{frame_checks, table_checks, frame_for};
 
 use crate::frames::common_frame;
-use rows::{Fault, Frame, FrameNumbers, Numbers, Refusal, Table, check_table, row_flaws};
+use rows::{Fault, Frame, FrameNumbers, Numbers, Refusal, Table, judge_rows};
 
 // The frame that is given, if one is, judged.
 pub(crate) fn judge_frame(frame: Option<FrameNumbers>) -> Result<Option<Frame>, Fault>
@@ -38,7 +38,7 @@ fn judge_on_common(table: &[Numbers]) -> Result<Table, Fault>
     ensures made { IfOk result (λ t. t ≡ book (frame_for None table.now) (rows_of table.now)) }
     ensures rows { OnOk result (map plain (rows_of table.now) ≡ table.now) }
 {
-    check_table(&row_flaws(), table)?;
+    judge_rows(table)?;
     match common_frame(table) {
         Some(ticks) => Table::judge(&FrameNumbers { ticks }.judge().unwrap(), table),
         None => Err(Refusal::BadFrame.at(0)),

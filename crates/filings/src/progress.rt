@@ -3,7 +3,7 @@ ghost use Rattle.std.specs.Prelude.{◌≡◌};
 
 /// What is told after each row that was counted both ways.
 pub trait Progress {
-    /// So many rows are counted, of so many that the table has. Whatever the method does, the count
+    /// Told after a row: how many are counted, of how many. Whatever the method does, the count
     /// stays the same.
     fn counted(&mut self, rows: usize, of: usize);
 }

@@ -82,7 +82,7 @@ module _ (l : Load) (last late point rest : ℕ) (walked : Walked l last late) (
         up_to_and_after late i (λ old. and_right (is_tested l last i) (is_rest l i) (walked.none i old)) (λ new. and_left (is_tested l last i) (is_rest l i) (next.none i new early));
   }
 
-  -- so it is the first rest, and that point the one at which testing stops
+  -- the rest that is found is the first, and the test point the one at which testing stops
   pub meets : first_rest l last ≡ Some rest
   unfolding first_rest
   meets = least_some (is_rest l) last 0 last rest first_of_all (omega (arith, first_of_all.within))
@@ -154,7 +154,7 @@ module _ (l : Load) (last : ℕ) (laws : Laws l.bound) (stands : StandOn l.frame
       at (Some s) None first none = absurd (both_ways (is_rest l s) (none s first.after first.within) (and_parts (is_tested l last s) (is_rest l s) first.holds).1)
       at (Some s) (Some t) stops first = record { rest = first; points = (s, stops, refl) }
 
-  -- and so of every finding that is it
+  -- every finding that is the defined one says what that says
   pub found_says : (f : Found) → f ≡ load_finding l last → Says l last f
   found_says f is = subst (Says l last) (sym is) finding_says
 

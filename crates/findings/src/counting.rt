@@ -22,7 +22,7 @@ const MIDDLE: usize = 4096;
 // A block for a long count. It stays in the nearest cache.
 const WIDE: usize = 16384;
 
-// So few corners in a block are few.
+// How many corners in a block are few at the most.
 const FEW: u32 = 32;
 
 // The least of the instants.
@@ -102,7 +102,7 @@ impl<'a, B: Bound> Load<'a, B> {
         corners
     }
 
-    // The same with as many flags as serve.
+    // How many instants up to the end are corners, by blocks of as many flags as serve.
     fn distinct_corners(&self, end: u32) -> u32
         requires { end ≤ horizon }
         ensures { result ≡ count (is_corner_above (load_of self.now)) end }

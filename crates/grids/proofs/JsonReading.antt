@@ -58,7 +58,7 @@ reads_as text ts headings rows is reads same =
           (value-json_tokens tree taken.max_depth [] (omega (arith, shallow headings rows)));
     }
 
--- the same, by what was written in turn
+-- a text written in turn has the tokens of a table, and is read as it
 pub written_reads_as : (text before : List ℕ) (ts first none : List Token) (headings : Headings) (rows : Rows)
     → text ≡ before ++ print ts
     → before ≡ [] → tokens (print ts) ≡ ts → ts ≡ first ++ items_tokens (rows_tree headings rows)

@@ -46,7 +46,7 @@ heading_passes h at =
     named : (b : Supplied) → first_refusal (bound_checks (record { frame = h.frame; bound = (bound_numbers b).0; accuracy = (bound_numbers b).1 }) at) ≡ gives tt
     named b = sym (all_pass at (named_checks (bound_numbers b).0 (bound_numbers b).1) (sym (fine b)))
 
--- and so do those of a row
+-- the numbers of a row pass their checks
 pub numbers_pass : (r : Row) (at : ℕ) → first_refusal (flaw_checks row_flaws (plain r) at) ≡ gives tt
 numbers_pass r at =
     let busy = ne_eqb r.work 0 (λ e. omega (arith, r.busy)) in

@@ -69,6 +69,6 @@ row_place n = 1 + heading_size + (1 + row_size) * n
 abbrev pub finding_place : ℕ → ℕ → ℕ
 finding_place n m = row_place n + (1 + finding_size) * m
 
--- and after the end: so long is a leaf of n rows and as many findings
+-- the place after the end: how long a leaf of n rows and as many findings is
 abbrev pub leaf_length : ℕ → ℕ
 leaf_length n = finding_place n n + 1 + end_size

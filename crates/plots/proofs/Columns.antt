@@ -11,7 +11,7 @@ narrow window some short =
     let e : window + (720 - 1) ≡ 1 * 720 + (window - 1) = omega arith in
     ap (λ n. n / 720) e ∙ div-mul-add 1 720 (window - 1) (omega arith)
 
--- so every test point of it is the first in its column
+-- in a window that is no longer than there are columns every test point is the first in its column
 pub all_drawn : (tested : ℕ → Bool) (window : ℕ) (kept : BTreeSet ℕ) → 1 ≤ window → DrawsColumns tested window (ceiling window 720) 720 kept
     → window ≤ 720 → (t : ℕ) → 1 ≤ t → t ≤ window → IsTrue (tested t) → Draws kept t
 all_drawn tested window kept some firsts short t low high holds =

@@ -40,7 +40,7 @@ pub record IsThinned (tested : ℕ → Bool) (window columns : ℕ) (rests : Lis
   pub firsts : DrawsColumns tested window (ceiling window columns) columns kept
   -- of a window that is no longer than there are columns, every test point is
   pub whole : window ≤ columns → (t : ℕ) → 1 ≤ t → t ≤ window → IsTrue (tested t) → Draws kept t
-  -- what decides about each first rest is
+  -- what decides about each first rest is drawn
   pub decided : EachIndex rests (λ k. DrawsRest tested window (slice_index rests k) kept)
-  -- there are few enough for a picture
+  -- the instants drawn are few enough for a picture
   pub few : btree_set_len kept ≤ columns + 3 * length rests + 1

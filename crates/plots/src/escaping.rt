@@ -4,7 +4,7 @@ ghost use Rattle.plots.specs.Escaping.{IsPlain, escaped, stand_in};
 
 use std::alloc::{AllocError, Global};
 
-// So many characters of a name are shown.
+// How many characters of a name are shown.
 const LONGEST_NAME: usize = 40;
 
 // What stands for a character in XML: an entity for one that has a meaning there, a question mark for

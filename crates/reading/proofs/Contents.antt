@@ -22,7 +22,7 @@ findings_run : (fs : List Finding) {p : Phase} {h : Heading} {n m : ℕ} → Tak
 findings_run [] takes good count = goes (closes takes (omega arith) (omega arith)) stays
 findings_run (f ∷ fs) takes good count = goes (finds takes (omega arith) (All-head IsFilable f fs good)) (findings_run fs after_findings (All-tail IsFilable f fs good) (omega arith))
 
--- and so do rows before them
+-- rows, and then findings and the end, close a leaf
 rows_run : (h : Heading) (n t : ℕ) (rs : List Row) (fs : List Finding) → n + length rs ≡ t → length fs ≡ t → t ≤ most_rows → AllPass (is_on_frame h.frame.ticks) rs → All IsFilable fs
     → Run (Rows h n) (map row rs ++ (map finding fs ++ end (1 + t + t) ∷ [])) (Closed h t)
 rows_run h n t [] fs total count few on good =

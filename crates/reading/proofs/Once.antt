@@ -31,7 +31,7 @@ closed_stays (Rows h n) q e closed step = false≢true closed
 closed_stays (Findings h n m) q e closed step = false≢true closed
 closed_stays (Closed h n) q e closed step = closed_stuck step
 
--- so a reader that is sound takes one entry or none
+-- a reader that is sound takes one entry or none
 pub takes_once : (old : Reading) → IsSound old.phase → TakesOnce old
 takes_once old sound None None new other none also = (refl, none.2 ∙ sym also.2)
 takes_once old sound None (Some e) new other none taken = absurd (closed_stays old.phase other.phase e none.0 taken.step)
@@ -68,6 +68,6 @@ fits_once bytes (refuses n at) (refuses m to) fits also =
     let moved = ap (λ n. first_refusal (next_checks fits.phase n fits.left)) place ∙ ap₂ (λ p xs. first_refusal (next_checks p (length (bytes_of also.before)) xs)) both.1 both.2 in
     again n at m to (sym fits.fails ∙ moved ∙ also.fails)
 
--- so what is said of one that fits is said of each
+-- what is said of one answer that fits is said of each
 pub said_of_each : (P : Answer Contents → Type 0) (bytes : List ℕ) (a : Answer Contents) → Fits bytes a → P a → (b : Answer Contents) → Fits bytes b → P b
 said_of_each P bytes a fits said b also = subst P (fits_once bytes a b fits also) said

@@ -79,7 +79,7 @@ module _ {bytes : List ℕ} {h : Heading} {n : ℕ} (is : IsRead bytes h n) wher
         lawful = is.fits.0;
       }
 
-  -- and stand in the bytes
+  -- the parts that hold the contents stand in the bytes
   pub stand_in : {rs fs : List ℕ} → HoldContents h rs fs is.contents → (last : List ℕ) × (bytes ≡ entry_bytes (heading h) ++ (rs ++ (fs ++ last)))
   stand_in parts =
       let last = is.parts.split.0 in

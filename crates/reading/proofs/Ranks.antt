@@ -85,7 +85,7 @@ module _ (size : ℕ) where
     pub body_found : (part : List ℕ) → part ≡ drop ((1 + size) * i) bytes → (r : Option (Bor (List ℕ))) → IsGetRangeResult part 1 (1 + size) r → option_map (λ b. b.now) r ≡ option_map body_of (at_rank (suc i) es)
     body_found part from r got = first_body (drop i es) (All-drop IsOfSize i es all) r (subst (λ xs. IsGetRangeResult xs 1 (1 + size) r) (from ∙ behind) got)
 
-    -- and past the last byte there is none
+    -- past the last byte no body is found
     pub none_past : length bytes ≤ (1 + size) * i → at_rank (suc i) es ≡ None
     none_past past = no_first (drop i es) (All-drop IsOfSize i es all) (omega (arith, past, ap length behind, length-drop ((1 + size) * i) bytes))
 

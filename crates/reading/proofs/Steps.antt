@@ -28,7 +28,7 @@ use Rattle.leaves.proofs.Fields.{heading_again, row_again, finding_again, headin
 pub opening_sound : IsSound Opening
 opening_sound = record { few = omega arith; orderly = omega arith }
 
--- and so is one after a step
+-- a reader after a step is sound
 pub step_sound : {p q : Phase} {e : Entry} → Step p e q → IsSound p → IsSound q
 step_sound opens sound = record { few = omega arith; orderly = omega arith }
 step_sound (stands room on) sound = record { few = omega arith; orderly = omega arith }
@@ -37,7 +37,7 @@ step_sound (finds after_findings missing good) sound = record { few = sound.few;
 step_sound (closes after_rows even number) sound = record { few = sound.few; orderly = omega arith }
 step_sound (closes after_findings even number) sound = record { few = sound.few; orderly = omega arith }
 
--- it is placed after the bytes of the entry
+-- a reader after a step is placed after the bytes of the entry
 pub step_place : {p q : Phase} {e : Entry} → Step p e q → place_of p + length (entry_bytes e) ≡ place_of q
 step_place opens = refl
 step_place (stands room on) = omega arith

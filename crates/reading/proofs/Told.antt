@@ -31,11 +31,11 @@ module _ {X A : Type 0} (entry : X → Entry) (fields : List ℕ → A) (tell : 
   told body rank xs good same =
       ap (option_map fields) (same ∙ ap (option_map body_of) (at_rank_map entry rank xs)) ∙ one_told (at_rank rank xs) (at_rank_has P rank xs good)
 
--- so it is with a row
+-- the fields of the body of a row tell the row
 pub row_told : (body : Option (List ℕ)) (rank : ℕ) (rs : List Row) → body ≡ option_map body_of (at_rank rank (map row rs)) → option_map row_fields body ≡ option_map plain (at_rank rank rs)
 row_told body rank rs same = told row row_fields plain (λ r. Unit {0}) (λ r good. row_again r []) body rank rs (λ k d within. tt) same
 
--- and with a finding that can be filed
+-- the fields of the body of a finding that can be filed tell the finding
 pub finding_told : (body : Option (List ℕ)) (rank : ℕ) (fs : List Finding) → All IsFilable fs → body ≡ option_map body_of (at_rank rank (map finding fs)) → option_map (λ b. tells (finding_fields b)) body ≡ option_map tells (at_rank rank fs)
 finding_told body rank fs good same = told finding (λ b. tells (finding_fields b)) tells IsFilable (λ f filable. ap tells (finding_again f [] filable)) body rank fs good same
 

@@ -27,7 +27,7 @@ pub read_none : (bytes : List ℕ) → HasRead bytes (record { phase = Opening; 
 read_none bytes = record { before = []; split = refl; run = stays }
 
 module _ (bytes : List ℕ) (here next : Reading) (has : HasRead bytes here) where
-  -- it has read one entry more
+  -- a reader that takes an entry has read one more
   pub read_more : (o : Option Entry) → is_some o ≡ true → Takes here o next → HasRead bytes next
   read_more None none taken = absurd (false≢true none)
   read_more (Some e) some taken = record {

@@ -49,7 +49,7 @@ place_of (Rows h n) = row_place n
 place_of (Findings h n m) = finding_place n m
 place_of (Closed h n) = leaf_length n
 
--- so many rows and findings can have come
+-- as many rows and findings as a phase tells can have come
 pub record IsSound (p : Phase) : Type 0 where
   pub few : rows_in p ≤ most_rows
   pub orderly : findings_in p ≤ rows_in p

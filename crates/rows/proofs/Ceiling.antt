@@ -19,7 +19,7 @@ ceiling_covers a b some = omega (arith, div-add-mod' (a + (b - 1)) b, mod_below 
 pub ceiling_tight : (a b : ℕ) → 0 < b → ceiling a b * b < a + b
 ceiling_tight a b some = omega (arith, div-add-mod' (a + (b - 1)) b)
 
--- it never falls
+-- a quotient rounded up never falls
 pub ceiling_grows : (a c b : ℕ) → 0 < b → a ≤ c → ceiling a b ≤ ceiling c b
 ceiling_grows a c b some order =
     let more = lt_of_mul-lt-mul_right b {m = ceiling a b} {n = ceiling c b + 1} (omega (arith, ceiling_tight a b some, ceiling_covers c b some)) in

@@ -30,7 +30,7 @@ places_pass wrong place xs refusal x others given =
     at true found none = cc
     at false found none = λ k d within. fails_before_first wrong xs k d (omega (arith, ltb-false (position_or_len wrong xs) (length xs) found))
 
--- and so where it tells ranks
+-- where a check of each element that tells ranks passes, none is wrong
 pub each_passes : {A X : Type 0} (wrong : X → Bool) (xs : List X) (refusal : Refusal) (x : A) (others : Answer A) → gives x ≡ refuses_at refusal (option_map (λ i. i + 1) (position wrong xs)) others → All (λ y. wrong y ≡ false) xs × (gives x ≡ others)
 each_passes wrong xs = places_pass wrong (λ i. i + 1) xs
 
@@ -38,7 +38,7 @@ each_passes wrong xs = places_pass wrong (λ i. i + 1) xs
 pub passes_on : {A : Type 0} (wrong : Bool) (refusal : Refusal) (at : ℕ) (others : Answer A) → wrong ≡ false → refuses_at refusal (if wrong then Some at else None) others ≡ others
 passes_on wrong refusal at others right = rw right
 
--- and so does a check of a list in which nothing is
+-- a check of a list in which nothing is wrong leaves the answer to others
 pub places_pass_on : {A X : Type 0} (wrong : X → Bool) (place : ℕ → ℕ) (xs : List X) (refusal : Refusal) (others : Answer A) → All (λ y. wrong y ≡ false) xs → refuses_at refusal (option_map place (position wrong xs)) others ≡ others
 places_pass_on {X = X} wrong place xs refusal others right = ap (λ o. refuses_at refusal (option_map place o) others) (nowhere xs right)
   where
@@ -73,7 +73,7 @@ passed_first (c ∷ cs) ds x y given z =
 pub gives_any : {A B : Type 0} (cs : List Check) (x y : A) → gives x ≡ checked cs y → (z : B) → gives z ≡ checked cs z
 gives_any cs x y given z = passed_first cs [] x y given z ∙ ap (λ all. checked all z) (append-nil cs)
 
--- and where one is refused, any other would have been refused in the same way
+-- where one value is refused, any other would have been refused in the same way
 pub refuses_any : {A B : Type 0} (cs : List Check) (n : Refusal) (at : ℕ) (y : A) → refuses n at ≡ checked cs y → (z : B) → refuses n at ≡ checked cs z
 refuses_any cs n at y refused z = refused_first cs [] n at y refused z ∙ ap (λ all. checked all z) (append-nil cs)
 

@@ -24,7 +24,7 @@ moved_down old place last x whole within =
     ap (drop (suc place)) is ∙ drop_at (take (place + 1) old) (take n tail) (suc place) (omega arith) ∙ sym (drop-take place n old) ∙ ap (λ l. drop place (take l old)) up in
     set_split all place x (omega arith) ∙ ap₂ (λ xs ys. xs ++ x ∷ ys) before after
 
--- and so it is at a rank
+-- with the elements from a rank on moved down by one, and a new one at the rank, the new one is put in
 pub moved_from_rank : {X : Type 0} (old now : List X) (rank : ℕ) (x : X) → 1 ≤ rank → rank ≤ length old → now ≡ copy_within old (rank - 1) (length old - 1) rank
     → set now (rank - 1) x ≡ insert (take (length old - 1) old) (rank - 1) x
 moved_from_rank old now rank x low high moved =
@@ -47,7 +47,7 @@ insert_front xs k x within =
     ap (take (k + 1)) (sym (append_assoc (take k xs) (x ∷ []) (drop k xs)))
     ∙ take_at (take k xs ++ x ∷ []) (drop k xs) (k + 1) (omega (arith, length-append (take k xs) (x ∷ []), length-take-le k xs within))
 
--- and one element more
+-- a list with an element put in has one element more
 pub length_insert : {X : Type 0} (xs : List X) (k : ℕ) (x : X) → k ≤ length xs → length (insert xs k x) ≡ length xs + 1
 length_insert xs k x within = omega (arith, length-append (take k xs) (x ∷ drop k xs), length-take-le k xs within, length-drop k xs)
 

@@ -8,6 +8,6 @@ front_map : {X Y : Type 0} (f : X → Y) (p : Y → Bool) (xs : List X) → pref
 front_map f p [] = refl
 front_map f p (x ∷ xs) = ap (λ n. cond (p (f x)) (1 + n) 0) (front_map f p xs)
 
--- and its first place
+-- the first place of a list that was made of another by a function
 pub position_map : {X Y : Type 0} (f : X → Y) (p : Y → Bool) (xs : List X) → position p (map f xs) ≡ position (λ x. p (f x)) xs
 position_map f p xs = ap₂ (λ i n. cond (ltb i n) (Some i) None) (front_map f (λ y. not (p y)) xs) (length-map xs f)

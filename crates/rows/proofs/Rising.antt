@@ -18,7 +18,7 @@ module _ (r : Row) where
       omega (arith, div-add-mod' (t + r.jitter) r.period, eqb-true ((t + r.jitter) % r.period) 0 parts.1) in
       ((t + r.jitter) / r.period, lt_of_mul-lt-mul_right r.period {m = 0} {n = (t + r.jitter) / r.period} (omega arith), multiple)
 
-  -- and every such instant is one
+  -- every instant b × period − jitter is a rise
   pub multiple_rises : (t b : ℕ) → 1 ≤ b → t + r.jitter ≡ b * r.period → is_rise r t ≡ true
   multiple_rises t b some multiple =
       let room = mul-le 1 r.period b r.period some (omega arith) in

@@ -12,13 +12,13 @@ same_verdict Misses (Meets t) same = cc
 same_verdict (Meets t) Misses same = cc
 same_verdict (Meets t) (Meets u) same = let rest : t ≡ u = cc in ap Meets rest
 
--- so a finding is known by what it tells
+-- a finding is known by what it tells
 pub same_finding : (f g : Finding) → tells f ≡ tells g → f ≡ g
 same_finding f g same =
     let verdict = same_verdict f.verdict g.verdict (ap (λ x. x.rest) same) in
     λ i. record { verdict = verdict i; points = (same i).points }
 
--- and so are many
+-- findings are known by what they tell
 pub same_findings : (fs gs : List Finding) → map tells fs ≡ map tells gs → fs ≡ gs
 same_findings [] [] same = refl
 same_findings [] (g ∷ gs) same = cc

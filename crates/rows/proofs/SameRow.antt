@@ -23,7 +23,7 @@ same_row r s same =
       near = is_prop→PathP (λ j. (same j).period ≤ horizon) (λ j. le_prop) r.near s.near i;
     }
 
--- and so it is with lists of rows
+-- lists of rows with the same numbers are the same
 pub same_rows : (rs ss : List Row) → map plain rs ≡ map plain ss → rs ≡ ss
 same_rows [] [] same = refl
 same_rows [] (s ∷ ss) same = cc
@@ -42,7 +42,7 @@ row_of_plain r =
     ∙ dif_pos (dec_le r.deadline r.period) le_prop r.timely _ _
     ∙ dif_pos (dec_le r.period horizon) le_prop r.near _ _
 
--- and so it is with lists of rows
+-- the rows of the numbers of rows are those rows
 pub rows_of_plain : (rs : List Row) → rows_of (map plain rs) ≡ rs
 rows_of_plain [] = refl
 rows_of_plain (r ∷ rs) = ap₂ cons_option (row_of_plain r) (rows_of_plain rs)

@@ -26,7 +26,7 @@ same_first xs = elim (cases_lt 130 (length xs)) [
   | inr h ↦ ap (λ x. take 129 (without_return x)) (take_all room xs h)
 ]
 
--- so a line means what its first bytes do
+-- a line means what its first bytes do
 pub same_line : (n : Bool) (xs : List ℕ) → line_of n (without_return (take room xs)) ≡ line_of n (without_return xs)
 same_line n xs =
     sym (line_of_clipped n (without_return (take room xs))) ∙ ap (line_of n) (same_first xs) ∙ line_of_clipped n (without_return xs)
@@ -75,7 +75,7 @@ same_output (b ∷ bytes) begun s = by_case (same_output bytes) (b == line_feed)
     by_case before false =
         ap (λ x. written_for_bytes (record { stage = s; line = x }) bytes) (clipped_more begun b) ∙ before (begun ++ b ∷ []) s
 
--- and come to the same stage
+-- bytes come to the stage to which the lines come that they end
 pub same_progress : (bytes begun : List ℕ) (s : Stage)
     → after_bytes (at_line s begun) bytes ≡ at_line (stage_after s (map without_return (ended_lines begun bytes))) (begun_after begun bytes)
 same_progress [] begun s = refl
@@ -89,7 +89,7 @@ same_progress (b ∷ bytes) begun s = by_case (same_progress bytes) (b == line_f
     by_case before false =
         ap (λ x. after_bytes (record { stage = s; line = x }) bytes) (clipped_more begun b) ∙ before (begun ++ b ∷ []) s
 
--- so is the line that the end of the input ends
+-- the line that the end of the input ends is answered as it stands
 pub same_last : (begun : List ℕ) (s : Stage) → written_last (at_line s begun) ≡ output_from s (map without_return (last_line begun))
 same_last [] s = refl
 same_last (b ∷ begun) s = same_written s (b ∷ begun) ∙ sym (append-nil (written_for s (without_return (b ∷ begun))))
@@ -99,7 +99,7 @@ pub first_output : (bytes : List ℕ) → written_for_bytes first_progress bytes
 unfolding ended_output
 first_output bytes = same_output bytes [] first_stage
 
--- and for all of a script
+-- what is written for all of a script
 pub whole_output : (bytes : List ℕ)
     → script_output bytes ≡ written_for_bytes first_progress bytes ++ written_last (after_bytes first_progress bytes)
 unfolding script_output

@@ -18,7 +18,7 @@ Begun-longer a b bytes rest begun = record {
   got = subst (Appends a b) (sym (take-append-le begun.count bytes rest begun.within)) begun.got;
 }
 
--- and with others in front, which were written before
+-- a beginning of bytes, with others in front that were written before it, is one of both
 pub Begun-after : (a b c : Option (List ℕ)) (front bytes : List ℕ) → Appends a b front → Begun b c bytes → Begun a c (front ++ bytes)
 Begun-after a b c front bytes put begun = record {
   count = length front + begun.count;

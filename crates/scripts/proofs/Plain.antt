@@ -100,7 +100,7 @@ all_stay [] p = refl
 all_stay (line ∷ lines) p =
     ap (λ l. l ∷ map without_return lines) (stays line p.0) ∙ ap (λ ls. line ∷ ls) (all_stay lines p.1)
 
--- they are the lines of the script that they make
+-- plain lines are the lines of the script that they make
 pub script_lines-plain : (lines : List (List ℕ)) → AllByRecursion Plain lines → script_lines (as_lines lines) ≡ lines
 script_lines-plain lines p =
     ap (λ ls. map without_return (ls ++ last_line (begun_after [] (as_lines lines)))) (ended_all lines p)

@@ -43,7 +43,7 @@ begun_of a b taken rest begun =
     (ap (λ x. x ++ last) (sym (written-append first_progress taken rest)) ∙ sym (whole_output (taken ++ rest)))
     (Begun-longer a b (written_for_bytes first_progress taken ++ more) last (Begun-longer a b (written_for_bytes first_progress taken) more begun))
 
--- so it is one of what is written for all that the reader held
+-- what was written is a beginning of what is written for all that the reader held
 pub begins : (held left a b : Option (List ℕ)) (taken : List ℕ) → Consumes held left taken
     → Begun a b (written_for_bytes first_progress taken) → BeginsToPlay held a b
 begins None left a b taken read begun =
@@ -65,7 +65,7 @@ module _ (p : Progress) (held left a b : Option (List ℕ)) (so_far : PlayedOn f
       ap (λ x. written_for_bytes first_progress so_far.bytes ++ written_for_bytes x bytes) so_far.played
       ∙ sym (written-append first_progress so_far.bytes bytes)
 
-  -- and where the input ends
+  -- what is written for all that was read, where the input ends
   all_at_end : written_for_bytes first_progress so_far.bytes ++ written_last p ≡ script_output so_far.bytes
   all_at_end =
       ap (λ x. written_for_bytes first_progress so_far.bytes ++ written_last x) so_far.played ∙ sym (whole_output so_far.bytes)
@@ -74,7 +74,7 @@ module _ (p : Progress) (held left a b : Option (List ℕ)) (so_far : PlayedOn f
   ended : Appends a b (ended_output so_far.bytes)
   ended = subst (Appends a b) (first_output so_far.bytes) so_far.written
 
-  -- it may end in an error of reading
+  -- a run whose lines are all answered may end in an error of reading
   pub stopped : (e : Error) → HasPlayed (Reading e) held left a b
   stopped e = (so_far.bytes, so_far.read, ended)
 

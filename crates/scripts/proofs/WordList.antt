@@ -79,7 +79,7 @@ pub next_word : (line : List ℕ) → NextWord line (drop (prefix_len is_blank l
 next_word [] = record { none = λ _. refl; some = λ z. absurd (omega (arith, z)) }
 next_word (b ∷ bs) = next_by b bs (is_blank b) refl (next_word bs)
 
--- the same of the parts that a line is cut into
+-- what a line says of its words, from the parts that it is cut into
 pub taken : (line rest front back : List ℕ) (start n : ℕ) → start ≡ prefix_len is_blank line → rest ≡ drop start line → n ≡ position_or_len is_blank rest → front ≡ take n rest → back ≡ drop n rest → (length front ≡ 0 → words_of line ≡ []) × (0 < length front → words_of line ≡ front ∷ words_of back)
 taken line rest front back start n at tail long f b =
     let w : NextWord line (drop (prefix_len is_blank line) line) (position_or_len is_blank (drop (prefix_len is_blank line) line)) = next_word line in

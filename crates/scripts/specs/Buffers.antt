@@ -1,7 +1,7 @@
 -- What is kept of a text.
 use Rattle.std.specs.Prelude.{◌≡◌, ℕ, ◌≤◌, List, length}
 
--- so many bytes of a text are kept: of a line those that may stand in a call, one more, and the one that may be dropped
+-- how many bytes of a text are kept: those that may stand in a call, one more, and the one that may be dropped
 abbrev pub room : ℕ
 room = 130
 

@@ -36,7 +36,7 @@ line_by_numbers Admit ns =
 line_by_numbers Dismiss ns = Call (DismissRow (slice_index ns 0))
 line_by_numbers Inquire ns = Call (InquireRow (slice_index ns 0))
 
--- the same where there are numbers, or that one was expected for a field
+-- the line of a form whose numbers were read; or none, where a number was expected for a field
 abbrev pub line_by_reading : LineForm → Result (List ℕ) Field → ScriptLine
 line_by_reading form (Ok ns) = line_by_numbers form ns
 line_by_reading form (Err field) = NoCall (Number field)

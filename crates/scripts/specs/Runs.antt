@@ -52,7 +52,7 @@ AnswersCalls m naming =
     (calls : List Call) → AllByRecursion FitsLine calls
     → script_output (as_lines (naming ∷ map call_text calls)) ≡ as_lines (map answer_text (answers_to m calls))
 
--- so it is by each bound that a script can name
+-- a script is answered as the book's answers by each bound that it can name
 pub record CallsAreAnswered : Type 0 where
   pub exact : AnswersCalls exact_steps exact_text
   pub tail : (k : ℕ) → IsTrue (is_accuracy k) → AnswersCalls (linear_tail k) (linear_text k)

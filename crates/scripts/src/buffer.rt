@@ -27,7 +27,7 @@ impl Buffer {
     ghost use Rattle.std.specs.Prelude.{◌≡◌, ◌++◌, [], ◌∷◌, take};
     ghost use Rattle.scripts.specs.Buffers.{room};
 
-    // So many bytes of a text are kept.
+    // How many bytes of a text are kept.
     pub(crate) const ROOM: usize = 130;
 
     // No text.

@@ -10,7 +10,7 @@ use std::io;
 use std::io::{ErrorKind, Read, Write};
 use streams::{Failure, NamedFailure, read_again};
 
-// So many bytes are read at a time.
+// How many bytes are read at a time.
 const BLOCK: usize = 4096;
 
 /// A failure of `run` with the names of what it read and wrote, as people are told it.

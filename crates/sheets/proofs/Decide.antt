@@ -34,7 +34,7 @@ module _ (body more : List ℕ) where
       let d = get_or_append_left body more 0 (i + 3) (omega arith) in
       rw (a, b, c, d) refl
 
-  -- and so are the fields of a body that is whole
+  -- the fields of a body that is whole are the same with more bytes behind it
   heading_stays : heading_size ≤ length body → heading_fields (body ++ more) ≡ heading_fields body
   heading_stays whole =
       let frame = number_stays 0 (omega arith) in
@@ -72,7 +72,7 @@ opening_stays k body more whole = at (eqb k letter_F) refl
     at true is = let heading = eqb-true k letter_F is in rw heading (heading_checks_stay body more 0 whole)
     at false other = rw other refl
 
--- and in the rows neither, where a row is whole or has no room
+-- in the rows, what follows the first bytes changes nothing where a row is whole or has no room
 rows_stay : (h : Heading) (n k : ℕ) (body more : List ℕ) → most_rows ≤ n ⊎ row_size ≤ length body → first_refusal (row_checks (Rows h n) (k ∷ (body ++ more))) ≡ first_refusal (row_checks (Rows h n) (k ∷ body))
 rows_stay h n k body more room = at (eqb k letter_R) refl
   where

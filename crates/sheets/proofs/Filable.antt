@@ -51,7 +51,7 @@ says_filable l last f low near says =
     in_range (Meets t) first = and_from (leb 1 t) (leb t horizon) (le-leb 1 t (omega (arith, first.after))) (le-leb t horizon (omega (arith, first.within)))
 
 module _ (m : Meaning) (h : FrameNumbers) (laws : Laws m) (frame : is_frame h.ticks ≡ true) where
-  -- so can the findings of a table whose rows stand on its frame
+  -- the findings of a table whose rows stand on its frame can be filed
   filable_below : (above rows : List Row) (fs : List Finding) → AllPass (is_on_frame h.ticks) above → AllPass (is_on_frame h.ticks) rows → map tells fs ≡ findings_below m h above rows → All IsFilable fs
   filable_below above rows [] on stand found = All-nil IsFilable
   filable_below above [] (f ∷ fs) on stand found = cc

@@ -25,11 +25,11 @@ use Rattle.sheets.proofs.Filable.{all_filable}
 abbrev pub leaf_of : OnSheet → List Finding → Contents
 leaf_of t fs = contents t.heading t.rows fs
 
--- there are as many findings as rows
+-- of a table that a sheet holds there are as many findings as rows
 pub findings_length : (t : OnSheet) → length (table_findings t) ≡ length t.rows
 findings_length t = length_findings_below (meaning_of t.heading.bound) t.heading.frame [] t.rows
 
--- they are a lawful leaf's
+-- the contents made of a lawful table and its findings are a lawful leaf's
 pub leaf_lawful : (t : OnSheet) (fs : List Finding) → IsLawful t → map tells fs ≡ table_findings t → IsLawfulLeaf (leaf_of t fs)
 leaf_lawful t fs lawful found =
     let h = t.heading in
@@ -52,7 +52,7 @@ module _ (c : Contents) (lawful : IsLawfulLeaf c) where
   put_answers size =
       room_is_left c size (leaf_length (length c.rows)) lawful ∙ ap (λ k. checked (check (ltb size k) ShortBuffer 0 ∷ []) k) (sym (encoding_length c lawful))
 
-  -- and it puts them
+  -- filing a lawful leaf whole puts its bytes
   pub puts : (old new : List ℕ) (r : Result ℕ Fault) → IfOk r (IsFiled c old new) → OnErr r (new ≡ old) → MatchResult r (λ _. new ≡ written old 0 (answer_bytes (gives c))) (λ _. new ≡ old)
   puts old new (Ok k) filed refused = filed.bytes
   puts old new (Err e) filed same = same

@@ -30,7 +30,7 @@ IsStuck h n left = (r : Row) (more : List ℕ) → n < most_rows → is_on_frame
 pub ended_stuck : (h : Heading) (n : ℕ) → IsStuck h n []
 ended_stuck h n r more few on same = cc
 
--- and none where a check refuses
+-- no row comes where a check refuses
 pub refused_stuck : (h : Heading) (n : ℕ) (number : Refusal) (at : ℕ) (left : List ℕ) → first_refusal (row_checks (Rows h n) left) ≡ refuses number at → IsStuck h n left
 refused_stuck h n number at left refused r more few on same =
     let passes = ap (λ xs. first_refusal (row_checks (Rows h n) xs)) same ∙ step_passes (stands {h = h} {n = n} {r = r} few on) (record { few = omega arith; orderly = omega arith }) (place_of (Rows h n)) more in
@@ -54,7 +54,7 @@ rows_once h n (r ∷ rs) (s ∷ ss) xs ys few room on level stuck held same =
     (subst (λ m. IsStuck h m xs) count stuck) (subst (λ m. IsStuck h m ys) number held) once.1 in
     (ap₂ ◌∷◌ once.0 later.0, later.1)
 
--- so the sheets of tables after which no row can come are known by their bytes
+-- sheets of tables after which no row can come are known by their bytes
 pub tables_once : (t u : OnSheet) (xs ys : List ℕ) → IsLawful t → IsLawful u → IsStuck t.heading (length t.rows) xs → IsStuck u.heading (length u.rows) ys → sheet_bytes t ++ xs ≡ sheet_bytes u ++ ys → (t ≡ u) × (xs ≡ ys)
 tables_once t u xs ys lawful fair stuck held same =
     let once = heading_once t.heading u.heading (bytes_of (map row t.rows) ++ xs) (bytes_of (map row u.rows) ++ ys)

@@ -55,7 +55,7 @@ module _ (bytes : List ℕ) (t : OnSheet) (here : Reading) (has : HasRead bytes 
     pub next_row : (length t.rows < most_rows) × (is_on_frame t.heading.frame.ticks r ≡ true) × (new.phase ≡ Rows t.heading (length t.rows + 1))
     next_row = leads_on (subst (λ p. Step p (row r) new.phase) has.phase taken.step)
 
-    -- then it has read one row more
+    -- a reader of sheets that takes a row has read one more
     pub read_row : HasRead bytes (on_sheet t.heading (t.rows ++ r ∷ [])) new
     read_row =
         let count : length t.rows + 1 ≡ length (t.rows ++ r ∷ []) = omega (arith, length-append t.rows (r ∷ [])) in
@@ -73,6 +73,6 @@ module _ (bytes : List ℕ) (t : OnSheet) (here : Reading) (has : HasRead bytes 
   pub read_refused : (number : Refusal) (at : ℕ) → refuses number at ≡ first_refusal (row_checks here.phase here.left) → IsRefusedAt bytes number at
   read_refused number at refused = in_rows t here.left has.lawful has.split (ap (λ p. first_refusal (row_checks p here.left)) (sym has.phase) ∙ sym refused)
 
-  -- and where nothing is left, the table fits
+  -- where nothing is left, the table that was read fits
   pub read_all : here.left ≡ [] → Fits bytes (gives t)
   read_all ended = (has.lawful, has.split ∙ ap (λ xs. sheet_bytes t ++ xs) ended ∙ append-nil (sheet_bytes t))

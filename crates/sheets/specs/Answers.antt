@@ -41,7 +41,7 @@ most_answer = leaf_length most_rows
 abbrev pub most_sheet : ℕ
 most_sheet = row_place most_rows
 
--- so many bytes decide: those of the sheet of a full table, and one more
+-- how many bytes decide: those of the sheet of a full table, and one more
 abbrev pub deciding : ℕ
 deciding = most_sheet + 1
 

@@ -10,7 +10,7 @@ use Rattle.streams.specs.Held.{MayHold}
 first_of_itself : (size : ℕ) (front : List ℕ) → length front ≤ size → front ≡ take size front
 first_of_itself size front few = sym (take_all size front few)
 
--- they are the first of all bytes, if none follows them where they are shorter
+-- bytes no longer than a size are the first so many of all, if none follows them where they are shorter
 first_of_all : (size : ℕ) (front rest : List ℕ) → length front ≤ size → (length front < size → rest ≡ [])
     → front ≡ take size (front ++ rest)
 first_of_all size front rest few end = elim (cases_lt (length front) size) [
@@ -47,7 +47,7 @@ module _ (size count : ℕ) (buffer : List ℕ) (long : length buffer ≡ size) 
   filled_first =
       first_of_held size (take count buffer) (omega (arith, len)) held left taken (λ h. end (omega (arith, len)))
 
-  -- and a reader that is known to have held some bytes has given the first of them
+  -- a reader that is known to have held some bytes has given the first of them
   pub filled_known : IfSome held (λ bytes. Consumes held left (take size bytes))
   filled_known =
       Consumes-first size (take count buffer) (omega (arith, len)) held left taken (λ h. end (omega (arith, len)))

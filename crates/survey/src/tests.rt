@@ -18,7 +18,7 @@ const WORKED: [u8; 90] = [
     0x5A, 0, 0, 0, 7, // Z
 ];
 
-// So many of its bytes are the sheet.
+// How many bytes of the worked leaf are its sheet.
 const SHEET: usize = 58;
 
 #[test]

@@ -51,7 +51,7 @@ pub record IsTable (rows : List Row) (t : TaskTable) : Type 0 where
   pub names : map (λ r. name_of (table_columns t) r.fields) tasks ≡ table_names t
   pub lines : map (λ r. r.line) tasks ≡ table_lines t
 
--- the same where there is a table; else no row says anything
+-- rows of fields are read as a table; or none of them says anything, where there is no table
 abbrev pub AreRead : List Row → Option TaskTable → Type 0
 AreRead rows None = rows ≡ []
 AreRead rows (Some t) = IsTable rows t

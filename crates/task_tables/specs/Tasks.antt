@@ -72,6 +72,6 @@ refusal_under columns fields Deadline = option_map (λ p. LateDeadline) (number_
 refusal_under columns fields Period = Some LongPeriod
 refusal_under columns fields Jitter = option_map (λ d. NoWindow) (number_under columns fields Deadline)
 
--- the same, where a field that is no number of 32 bits stands there
+-- the refusal told of a field that is no number of 32 bits, where its condition holds of what was written
 abbrev pub refusal_of : List Column → List (List ℕ) → Column → List ℕ → Option Refusal
 refusal_of columns fields c field = if is_digits field then refusal_under columns fields c else None

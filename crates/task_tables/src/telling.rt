@@ -9,7 +9,7 @@ use crate::printing::printable_char;
 use rows::Refusal;
 use std::alloc::{AllocError, Global};
 
-// So many characters of a field are told.
+// How many characters of a field are told.
 const MOST_CHARACTERS: usize = 40;
 
 impl Misread {
@@ -82,7 +82,7 @@ impl Misread {
         }
     }
 
-    // The same, with a refusal whose condition holds, where one does.
+    // What cannot be taken, told with the refusal whose condition holds, where one does.
     pub(crate) fn refused(self, refusal: Option<Refusal>) -> Misread
         ensures spot { result.spot ≡ self.spot }
         ensures refusal { refusal_told result ≡ refusal }

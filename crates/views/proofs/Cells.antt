@@ -22,7 +22,7 @@ text_shown bytes (Truth truth) is = absurd is
 text_shown bytes (Number n) is = absurd is
 text_shown bytes (Text text) is = ap shown_text is
 
--- and its field is that text
+-- the field of a cell of a text is that text
 pub text_field : (bytes : List ℕ) (cell : Cell) → IsText bytes cell → field_of cell ≡ bytes
 text_field bytes Nothing is = absurd is
 text_field bytes (Truth truth) is = absurd is
@@ -34,7 +34,7 @@ pub row_told : (rank : ℕ) (n : Numbers) (rest : Option ℕ) (points : ℕ) →
 row_told rank n None points = refl
 row_told rank n (Some rest) points = refl
 
--- and behind those of the heading they make a record
+-- the cells of a row behind those of the heading tell the fields of a record
 pub record_told : (name : List ℕ) (h : Heading) (rank : ℕ) (n : Numbers) (f : Found) (cells : List Cell) → map field_of cells ≡ heading_fields name h → map field_of (cells ++ row_cells rank n f) ≡ record_fields name h rank n f
 record_told name h rank n f cells heading =
     map-append field_of cells (row_cells rank n f) ∙ ap₂ (λ xs ys. xs ++ ys) heading (row_told rank n f.rest f.points)

@@ -25,7 +25,7 @@ read_fault bytes fault (gives c, fits, none) = absurd none
 read_fault bytes fault (refuses n at, fits, is) =
     subst (λ m. Fits bytes (refuses m fault.at)) (sym is.0) (subst (λ p. Fits bytes (refuses n p)) (sym is.1) fits)
 
--- so a leaf is damaged
+-- bytes that are read as no leaf are a damaged one
 damage_is : (name bytes : List ℕ) (fault : Fault) (d : Damage) → Fits bytes (refuses fault.refusal fault.at) → TellsDamage name fault (trouble.Damaged d) → IsDamaged name (Some bytes) d
 damage_is name bytes fault d fits told = record {
   named = told.0;

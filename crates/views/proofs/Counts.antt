@@ -19,7 +19,7 @@ use Rattle.views.specs.Cells.{counted_texts}
 use Rattle.views.specs.Printed.{first_told, told_at, told_of}
 use Rattle.views.specs.Ranked.{shown_rows}
 
--- there are as many findings as rows
+-- of a table that was counted there are as many findings as rows
 pub findings_even : (m : Meaning) (f : Filed) (found : List Finding) → map tells found ≡ findings_by m f → length found ≡ length f.rows
 findings_even m f found is = sym (length-map found tells) ∙ ap length is ∙ length_findings_below m f.frame [] f.rows
 

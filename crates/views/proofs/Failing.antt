@@ -10,7 +10,7 @@ pub keeps_same : (old : Option (List ℕ)) → Keeps old old
 keeps_same None = tt
 keeps_same (Some xs) = refl
 
--- it fails before anything is written
+-- a view whose trouble is not one of writing fails before anything is written
 pub fails_before : (IsView : List ℕ → Type 0) (of : Subject) (old : Option (List ℕ)) (t : Trouble) → IsTroubleOf of t → is_output t ≡ false → Fails IsView of old old t
 fails_before IsView of old t is before = record {
   before = λ _. (is, keeps_same old);

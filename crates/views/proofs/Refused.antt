@@ -32,7 +32,7 @@ table_refused held h k table (trouble.Input e) read refused = absurd refused.tol
 table_refused held h k table (trouble.Output e) read refused = absurd refused.told
 table_refused held h k table (trouble.Memory e) read refused = record { table = table; read = read; refused = refused }
 
--- and one of its row
+-- a trouble of a table is one of the row of a rank
 pub row_refused : (rank : ℕ) (held : Option (List ℕ)) (h k : Option ℕ) (t : Trouble) → IsTroubleOf (of_table held h k) t → IsTroubleOf (of_row rank held h k) t
 row_refused rank held h k (trouble.Table e) is = is
 row_refused rank held h k (trouble.Row m) is = is

@@ -29,7 +29,7 @@ past_last f zero (x ∷ xs) none = absurd (none_is_some (f x) (sym none))
 past_last f (suc i) (x ∷ xs) none =
     let rest : length xs < suc i = past_last f i xs none in omega (arith, rest)
 
--- so where nothing stands at a rank, it is past the last
+-- where nothing stands at a rank of a list, it is past the last
 pub past_rank : {X Y : Type 0} (f : X → Y) (rank : ℕ) (xs : List X) → None ≡ option_map f (at_rank rank xs) → 1 ≤ rank → length xs < rank
 past_rank f zero xs none some = absurd (omega (arith, some))
 past_rank f (suc i) xs none some = past_last f i xs none
@@ -60,7 +60,7 @@ told_step tell k (suc i) rank (r ∷ rs) (g ∷ gs) n f here row finding =
     let later : rank ≡ i + suc k = omega (arith, here) in
     ap (λ xs. tell k (plain r) (tells g) ∷ xs) (told_step tell (suc k) i rank rs gs n f later row finding)
 
--- so it is with rows of cells that tell it
+-- rows of cells that tell what is told, with one row more
 pub table_step : {X Y : Type 0} (tell : ℕ → Numbers → Found → X) (F : Y → X) (before : List X) (table : List Y) (cells : Y) (i rank : ℕ) (c : Contents) (row : Row) (finding : Finding) → rank ≡ suc i → map F table ≡ before ++ told_up_to tell i c → F cells ≡ tell rank (plain row) (tells finding) → StandsAt rank c (Some (row, finding)) → map F (table ++ cells ∷ []) ≡ before ++ told_up_to tell (suc i) c
 table_step tell F before table cells i rank c row finding at told new stands =
     let one : i + 1 ≡ rank = omega (arith, at) in

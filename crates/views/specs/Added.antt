@@ -79,7 +79,7 @@ Adds false name bytes old new =
     (refusal : Refusal) × (at : ℕ) × (around : List ℕ) × Fits bytes (refuses refusal at)
     × GrowBy (layout_of old) (IsDamageLine name refusal at around) (damage_fields name (number refusal) (words refusal) at around ∷ []) old new
 
--- so it is with all that a reader held
+-- a leaf, or the damage of one, is added for all that a reader held
 pub record AddsHeld (is_leaf : Bool) (name : List ℕ) (held : Option (List ℕ)) (old new : Show) : Type 0 where
   pub bytes : List ℕ
   pub all : MayHold held bytes

@@ -35,7 +35,7 @@ response_of n f = option_map (λ rest. rest + n.jitter) f.rest
 abbrev pub slack_of : Numbers → Found → Option ℕ
 slack_of n f = option_map (λ response. n.deadline - response) (response_of n f)
 
--- the same as cells
+-- the four numbers of a row, as cells
 abbrev pub number_cells : Numbers → List Cell
 number_cells n = Number n.work ∷ Number n.deadline ∷ Number n.period ∷ Number n.jitter ∷ []
 
@@ -70,7 +70,7 @@ row_fields rank n f =
     ++ (if is_some f.rest then codes "true" else codes "false")
     ∷ number_field f.rest ∷ number_field (response_of n f) ∷ decimal f.points ∷ [])
 
--- the same as cells
+-- what a program is told of a row below its heading, as cells
 abbrev pub row_cells : ℕ → Numbers → Found → List Cell
 row_cells rank n f =
     Number rank ∷ (number_cells n

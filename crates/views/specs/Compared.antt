@@ -40,7 +40,7 @@ compared_texts rank n one other =
     ∷ decimal one.points ∷ decimal other.points
     ∷ (if do_part one.rest other.rest then codes "part" else codes "same") ∷ [])
 
--- the same, where there are a row and both findings
+-- the texts of a compared row, where there are a row and both findings
 abbrev pub compared_of : ℕ → Option Numbers → Option Found → Option Found → List (List ℕ)
 compared_of rank None one other = []
 compared_of rank (Some n) None other = []

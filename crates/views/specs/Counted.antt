@@ -17,7 +17,7 @@ use Rattle.views.specs.declared.troubles.Trouble.TheVariants as trouble
 abbrev pub table_of : Counted → TaskTable
 table_of c = c.table
 
--- and what was counted of it
+-- what was counted of a table
 abbrev pub filed_of : Counted → Filed
 filed_of c = c.filing
 
@@ -52,7 +52,7 @@ pub record HasRank (held : Option (List ℕ)) (frame : Option ℕ) (accuracy ran
   pub counted : IsCountOf frame accuracy table filed
   pub is_rank : IsRank rank filed
 
--- so many rows are told, where a table has none of a rank
+-- it is told how many rows a table has, where it has none of a rank
 abbrev pub TellsRank : ℕ → Filed → Trouble → Type 0
 TellsRank rank f (trouble.Rank rows) = (rows ≡ length f.rows) × ((rank ≡ 0) ⊎ (length f.rows < rank))
 TellsRank rank f _ = ⊥

@@ -14,7 +14,7 @@ abbrev pub IsLeaf : Bool → List ℕ → Type 0
 IsLeaf true bytes = (c : Contents) × Fits bytes (gives c)
 IsLeaf false bytes = (number : ℕ) × (at : ℕ) × Fits bytes (refuses number at)
 
--- so it is with all that a reader held
+-- all that a reader held is a leaf, or is none
 pub record HeldLeaf (held : Option (List ℕ)) (is_leaf : Bool) : Type 0 where
   pub bytes : List ℕ
   pub all : MayHold held bytes
@@ -29,7 +29,7 @@ pub record HaveOneTable (c d : Contents) : Type 0 where
   pub frame : c.heading.frame ≡ d.heading.frame
   pub rows : map plain c.rows ≡ map plain d.rows
 
--- they have the same row at each rank up to one
+-- two leaves have the same row at each rank up to one
 abbrev pub AreSameUpTo : ℕ → Contents → Contents → Type 0
 AreSameUpTo n c d = (k : ℕ) → k < n → option_map plain (at_rank (k + 1) c.rows) ≡ option_map plain (at_rank (k + 1) d.rows)
 

@@ -17,7 +17,7 @@ use Rattle.views.specs.Cells.{heading_fields, record_fields}
 abbrev pub shown_rows : Rows → List (List (List ℕ))
 shown_rows rows = map (λ row. map shown_of row.items) rows
 
--- and as programs read them
+-- rows of cells as programs read them
 abbrev pub field_rows : Rows → List (List (List ℕ))
 field_rows rows = map (λ row. map field_of row.items) rows
 

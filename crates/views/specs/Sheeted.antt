@@ -13,7 +13,7 @@ pub record IsSheetOf (frame accuracy : Option ℕ) (table : TaskTable) (bytes : 
   pub tasks : IsTableOf (heading_for (frame_for frame (table_numbers table)) accuracy) (table_numbers table) sheet
   pub encoded : bytes ≡ sheet_bytes sheet
 
--- they are the sheet of the table that a reader held
+-- bytes are the sheet of the table that a reader held
 pub record IsSheetFor (frame accuracy : Option ℕ) (held : Option (List ℕ)) (bytes : List ℕ) : Type 0 where
   pub table : TaskTable
   pub read : ReadsAll held table

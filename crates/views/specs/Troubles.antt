@@ -46,7 +46,7 @@ pub record TellsFirst (frame accuracy : Option ℕ) (table : TaskTable) (t : Tro
   pub first : refuses refusal at ≡ first_refusal (filing_checks frame accuracy (table_numbers table))
   pub told : Tells frame refusal t
 
--- so it is with a table that was read
+-- a trouble tells the first refusal of the table that was read
 pub record TellsRefusal (held : Option (List ℕ)) (frame accuracy : Option ℕ) (t : Trouble) : Type 0 where
   pub table : TaskTable
   pub read : ReadsAll held table
@@ -108,7 +108,7 @@ IsTroubleOf of_leaf _ = ⊥
 IsTroubleOf of_nothing (trouble.Memory e) = Unit {0}
 IsTroubleOf of_nothing _ = ⊥
 
--- it was writing that failed, and not what came before
+-- a trouble of writing, and not of what came before
 abbrev pub is_output : Trouble → Bool
 is_output (trouble.Output e) = true
 is_output _ = false

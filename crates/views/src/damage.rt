@@ -7,7 +7,7 @@ use std::alloc::{AllocError, Global};
 use std::fmt;
 use task_tables::Printable;
 
-// So many bytes are shown before the place of a refusal, and so many after the one that stands there.
+// How many bytes are shown before the place of a refusal, and how many after the one that stands there.
 const BEFORE: usize = 8;
 
 const AFTER: usize = 7;

@@ -34,7 +34,7 @@ one_finding {old = old} {new = new} filed = by filed.step (filed_length filed)
     by (finds after_rows missing good) size = record { frame = refl; rows = omega arith; findings = refl; place = omega arith; size = size }
     by (finds after_findings missing good) size = record { frame = refl; rows = omega arith; findings = refl; place = omega arith; size = size }
 
--- and many of them
+-- rows filed one after the other leave as many rows more
 pub rows_filed : {p q : Phase} {old new : List ℕ} (rs : List Row) → FilesAll p old (map row rs) q new → After p old (length rs) 0 q new
 rows_filed [] none = record { frame = refl; rows = omega arith; findings = omega arith; place = omega arith; size = refl }
 rows_filed (r ∷ rs) (files first all) =

@@ -84,7 +84,7 @@ module _ (c : Contents) (size : ℕ) {A : Type 0} (x : A) (lawful : IsLawful c) 
     passes =
         room_is_left ∙ passes_on (ltb size (leaf_length (length c.rows))) ShortBuffer 0 (gives x) (le-ltb size (leaf_length (length c.rows)) (omega (arith, room, encoding_length c lawful)))
 
-    -- so they are never refused
+    -- lawful contents for which there is room are never refused
     pub never_refused : (number : Refusal) (at : ℕ) → refuses number at ≡ checked (checks_of c size) x → ⊥
     never_refused number at refused = let given = passes in cc
 

@@ -22,6 +22,6 @@ module _ (old : List ℕ) (at kind : ℕ) (ns : List ℕ) (room : at + 1 + 4 * l
       ∙ written_on old at (omega arith) before (four (get_or ns i d))
       ∙ ap (written old at) (flat_map_more four (kind ∷ []) (take i ns) (get_or ns i d) ∙ ap (λ xs. kind ∷ flat_map four xs) (sym (take_more ns i d within)))
 
-  -- and all of them
+  -- all numbers of a body, written behind its letter
   pub numbers_all : i ≡ length ns → written old at (kind ∷ flat_map four (take i ns)) ≡ written old at (kind ∷ flat_map four ns)
   numbers_all all = ap (λ xs. written old at (kind ∷ flat_map four xs)) (take_all i ns (omega arith))

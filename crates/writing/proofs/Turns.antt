@@ -23,7 +23,7 @@ more_left xs ends = ends
 more_left xs (takes {here = here} {e = e} first all) =
     takes (record { step = first.step; split = ap (λ ys. ys ++ xs) first.split ∙ append_assoc (entry_bytes e) here.left xs }) (more_left xs all)
 
--- and one entry more behind them
+-- where entries are taken, and one more behind them, all are
 take_push : {old here new : Reading} {es : List Entry} {e : Entry} → TakesAll old es here → TakesEntry here e new → TakesAll old (es ++ e ∷ []) new
 take_push ends last = takes last ends
 take_push (takes first all) last = takes first (take_push all last)
@@ -44,7 +44,7 @@ module _ {p : Phase} {old : List ℕ} {e : Entry} {q : Phase} {new : List ℕ} (
       let last : TakesEntry (reading p (entry_bytes e)) e (reading q []) = record { step = filed.step; split = sym (append-nil (entry_bytes e)) } in
       subst (λ xs. TakesAll (reading Opening xs) (es ++ e ∷ []) (reading q [])) (sym upto) (take_push (more_left (entry_bytes e) before) last)
 
--- so after entries filed in turn a reader has taken them all
+-- after entries filed in turn a reader has taken them all
 read_all : {p q : Phase} {old new : List ℕ} {es : List Entry} (before : List Entry) → FilesAll p old es q new → IsReadTo old before p → IsReadTo new (before ++ es) q
 read_all {q = q} {new = new} before none read = subst (λ es. IsReadTo new es q) (sym (append-nil before)) read
 read_all {q = q} {new = new} before (files {e = e} {es = es} first all) read =
@@ -62,7 +62,7 @@ pub file_push : {p q s : Phase} {old between new : List ℕ} {es : List Entry} {
 file_push none last = files last none
 file_push (files first all) last = files first (file_push all last)
 
--- and more of them
+-- entries filed in turn behind others are filed in turn with them
 pub file_join : {p q s : Phase} {old between new : List ℕ} {es fs : List Entry} → FilesAll p old es q between → FilesAll q between fs s new → FilesAll p old (es ++ fs) s new
 file_join none later = later
 file_join (files first all) later = files first (file_join all later)
@@ -85,7 +85,7 @@ turned {p = p} {old = old} (files {here = here} {between = between} {e = e} {es 
       bytes = later.bytes ∙ ap₂ (λ xs n. written xs n (bytes_of es)) first.bytes (sym at) ∙ written_on old (place_of p) within (entry_bytes e) (bytes_of es);
     }
 
--- and a run with room for its bytes can be filed in turn
+-- a run with room for its bytes can be filed in turn
 pub turn_all : {p q : Phase} {es : List Entry} → Run p es q → (old : List ℕ) → place_of q ≤ length old → FilesAll p old es q (written old (place_of p) (bytes_of es))
 turn_all {p = p} {q = q} stays old room = subst (λ xs. FilesAll p old [] q xs) (sym (written_none old (place_of p))) none
 turn_all {p = p} {q = q} (goes {q = here} {e = e} {es = es} step run) old room =
@@ -110,7 +110,7 @@ whole old new es h n filed =
       bytes = all.bytes ∙ ap (λ fs. written old 0 (bytes_of fs)) c.same;
     }
 
--- and every leaf for which there is room can be filed in turn
+-- every leaf for which there is room can be filed in turn
 turn : (old : List ℕ) (c : Contents) → IsLawful c → length (encoding c) ≤ length old → FilesAll Opening old (entries c) (Closed c.heading (length c.rows)) (written old 0 (encoding c))
 turn old c lawful room = let run = lawful_run c lawful in turn_all run old (omega (arith, run_place run, room))
 

@@ -51,6 +51,6 @@ pub record FilesWhole (old : List ℕ) (es : List Entry) (new : List ℕ) : Type
 pub record IsWholeInTurn : Type 0 where
   -- what is filed in turn from the opening to the end is a whole leaf, and leaves the bytes of one
   pub whole : (old new : List ℕ) (es : List Entry) (h : Heading) (n : ℕ) → FilesAll Opening old es (Closed h n) new → FilesWhole old es new
-  -- and every leaf for which there is room can be filed in turn, which leaves the same bytes
+  -- every leaf for which there is room can be filed in turn, and leaves the bytes of a whole one
   pub turn : (old : List ℕ) (c : Contents) → IsLawful c → length (encoding c) ≤ length old
       → FilesAll Opening old (entries c) (Closed c.heading (length c.rows)) (written old 0 (encoding c))

@@ -63,7 +63,7 @@ pub struct Unclosed {
     pub fault: Fault,
 }
 
-// It is written for people as its fault is.
+// A leaf that was not closed is written for people as its fault is.
 impl fmt::Display for Unclosed {
     ghost output = { λ u. Some (shown_fault u.fault) };
 

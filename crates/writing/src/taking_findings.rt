@@ -60,7 +60,7 @@ impl FindingsLeaf {
     }
 
     /// The phase in which a reader of what is filed would be: the rows, until a finding is filed.
-    /// Its place is where the next entry is to begin.
+    /// The place of the phase is where the next entry is to begin.
     pub fn phase(&self) -> Phase
         ensures answered { result ≡ self.now }
         ensures findings { IsInFindings self.now }

@@ -43,7 +43,7 @@ fn count(rt: &HostRuntime, table: Source<'_>, how: Counting) -> Result<Counted, 
     or_complain(rt, table.name(), counted)
 }
 
-// Both leaves, to be filed.
+// The two leaves of a table that was counted, to be filed.
 fn drafts(
     alloc: Global,
     counted: &Counted,

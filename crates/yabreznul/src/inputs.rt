@@ -28,7 +28,7 @@ impl<'a> Source<'a> {
         }
     }
 
-    /// What it is called where it is read.
+    /// What a source is called where it is read.
     pub(crate) fn name(&self) -> &'a str
         ensures standard { self.now ≡ Source.Standard → result.now ≡ codes "standard input" }
         ensures file { (word : _) → self.now ≡ Source.File word → result ≡ word }

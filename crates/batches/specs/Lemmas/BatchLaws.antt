@@ -20,7 +20,7 @@ use Rattle.batches.specs.Lemmas.JobsCounted.{count_covers, count_close, count_gr
 jobs_grow : (r : Row) (s t : ℕ) → s ≤ t → job_count r s ≤ job_count r t
 jobs_grow r s t order = ceiling_grows (s + r.jitter) (t + r.jitter) r.period (omega arith) (omega arith)
 
--- and where exact steps do not rise, there are as many jobs an instant later
+-- where exact steps do not rise, there are as many jobs an instant later
 jobs_stay : (r : Row) (t : ℕ) → 1 ≤ t → is_rise r t ≡ false → job_count r (t + 1) ≡ job_count r t
 jobs_stay r t late level = eq_of_mul-eq-mul_left r.work r.busy _ _ (steps_stay r t late level)
 
@@ -56,6 +56,6 @@ batch_laws p low high some =
       few = λ r. count_le (is_rise r) horizon;
     }
 
--- and so does every bound that is made, since its numbers are such
+-- every bound by batches that is made shows the laws, since its numbers are in range
 pub laws_of : (b : Batches) → Laws (batches (parameters_of b))
 laws_of b = batch_laws (parameters_of b) b.low b.high b.some

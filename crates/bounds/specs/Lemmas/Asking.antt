@@ -35,7 +35,7 @@ asked_then h r t u ask near = and_from (is_frame h && is_on_frame h r) (nat_le u
 abbrev pub most_steps : ℕ
 most_steps = 3 * horizon
 
--- so many parts are these steps at the longest frame
+-- how many parts the most steps are at the longest frame
 abbrev pub most_parts : ℕ
 most_parts = horizon * most_steps
 

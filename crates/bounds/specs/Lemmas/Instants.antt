@@ -47,7 +47,7 @@ module _ (p : ℕ → Bool) where
       read None none = λ i low high. none i (omega arith) (omega arith)
       read (Some t) f = record { after = omega arith; within = omega arith; holds = f.2; none = λ i low high. f.3 i (omega arith) high }
 
-  -- what it tells of the instants from 1 to n
+  -- what the search for the least instant tells of those from 1 to n
   pub least_up_to : (n : ℕ) → MatchOption (least p n 1) ((i : ℕ) → 1 ≤ i → i ≤ n → p i ≡ false) (IsFirst p 0 n)
   least_up_to n =
       let all : 0 + n ≡ n = omega arith in

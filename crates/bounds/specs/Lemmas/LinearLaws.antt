@@ -32,7 +32,7 @@ module _ (h : ℕ) (r : Row) (t : ℕ) (divides : h / r.period * r.period ≡ h)
   steps_shared : h * steps r t ≡ share h r * (r.period * ceiling (t + r.jitter) r.period)
   steps_shared = ap (λ n. n * steps r t) (sym divides) ∙ omega arith
 
-  -- and so is the line
+  -- the line is so many shares, too
   line_shared : line h r t ≡ share h r * (r.period + (t + r.jitter))
   line_shared = ap (λ n. n * r.work + (t + r.jitter) * r.work * (h / r.period)) (sym divides) ∙ omega arith
 

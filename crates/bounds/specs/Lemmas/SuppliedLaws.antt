@@ -12,7 +12,7 @@ use Rattle.bounds.specs.Lemmas.LinearLaws.{linear_laws}
 pub tail_laws : (t : LinearTail) → Laws (linear_tail (accuracy_of t))
 tail_laws t = linear_laws t.accuracy t.low t.high
 
--- and so does every supplied bound
+-- every supplied bound shows the laws
 pub laws_of : (s : Supplied) → Laws (meaning_of s)
 laws_of exact = exact_laws
 laws_of (tail t) = tail_laws t
