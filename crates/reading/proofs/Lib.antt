@@ -7,3 +7,4 @@ pub mod Walks
 pub mod Ranks
 pub mod Told
 pub mod Parts
+pub mod Each

@@ -7,3 +7,4 @@ pub mod Whole
 pub mod Bodies
 pub mod Held
 pub mod Leaves
+pub mod Told

@@ -1,4 +1,6 @@
 // What a leaf that was read holds.
+ghost use Rattle.std.specs.Prelude.{◌≤◌, length};
+ghost use Rattle.rows.specs.Times.{most_rows};
 ghost use Rattle.reading.specs.Held.{HoldSomeContents};
 
 use crate::bodies::{body_at, finding_fields, row_fields};
@@ -16,6 +18,31 @@ pub struct Leaf<'a> {
     ghost held: { HoldSomeContents heading rows.now findings.now },
 }
 
+/// The rows of a leaf in rank order, each with the finding about it.
+#[derive(Clone, Copy, PartialEq, Eq, Debug)]
+pub struct RowsWithFindings<'a> {
+    leaf: Leaf<'a>,
+    seen: u8,
+    ghost within: { seen ≤ most_rows },
+}
+
+impl<'a> Iterator for RowsWithFindings<'a> {
+    ghost use Rattle.std.specs.Iterator.{item_count, YieldsFirstBy};
+    ghost use Rattle.reading.specs.Told.{told, still_told};
+
+    type Item = (Row, Finding);
+
+    ghost next_gives = { YieldsFirstBy told still_told };
+
+    ghost remaining = { item_count still_told };
+
+    fn next(&mut self) -> Option<(Row, Finding)> {
+        let told = self.leaf.told(usize::from(self.seen) + 1)?;
+        self.seen += 1;
+        Some(told)
+    }
+}
+
 impl<'a> Leaf<'a> {
     ghost use Rattle.std.specs.Prelude.{◌≡◌, ◌==◌, length};
     ghost use Rattle.std.specs.Option.{option_map};
@@ -23,6 +50,7 @@ impl<'a> Leaf<'a> {
     ghost use Rattle.rows.specs.Lists.{at_rank};
     ghost use Rattle.rows.specs.Found.{tells};
     ghost use Rattle.leaves.specs.Contents.{Contents};
+    ghost use Rattle.reading.specs.Told.{told, told_of, all_told, still_told};
     ghost use Rattle.reading.specs.Leaves.{heading_of, row_bytes, finding_bytes, Holds, HoldsSome};
 
     /// The heading: the frame of the rows, and the bound by which they were counted
@@ -67,6 +95,25 @@ impl<'a> Leaf<'a> {
     {
         let body = body_at(self.findings, FINDING_SIZE, rank)?;
         Some(finding_fields(body))
+    }
+
+    // The row of a rank and its finding, both of which are there or neither.
+    fn told(&self, rank: usize) -> Option<(Row, Finding)>
+        ensures answered { option_map told result ≡ at_rank rank (all_told self.now) }
+        ensures few { length (all_told self.now) ≤ most_rows }
+    {
+        self.row(rank).zip(self.finding(rank))
+    }
+
+    /// The rows in rank order, each with the finding about it: as many as there are rows
+    /// (docs/FORMAT.md, Entries).
+    pub fn rows_with_findings(&self) -> RowsWithFindings<'a>
+        ensures { (c : Contents) → Holds self.now c → still_told result ≡ told_of c }
+    {
+        RowsWithFindings {
+            leaf: *self,
+            seen: 0,
+        }
     }
 
     /// The bytes of the rows in rank order, 17 a row, each with its letter: a part of the bytes that

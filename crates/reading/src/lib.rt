@@ -8,7 +8,7 @@ mod phases;
 mod readers;
 mod whole;
 
-pub use held::Leaf;
+pub use held::{Leaf, RowsWithFindings};
 pub use phases::Phase;
 pub use readers::Reader;
 pub use whole::read;
