@@ -13,6 +13,10 @@ use Rattle.filings.specs.Frames.{is_common, common_frame, IsCommonFrame, HasNoFr
 use Rattle.std.proofs.lemmas.Nat.Gcd.{dvd_of_mod-eq-zero, dvd_trans, le_of_dvd, mod-eq-zero_of_dvd}
 use Prim.Native.Nat.{◌∣◌}
 
+-- what a place past the table would hold
+abbrev pub nothing : Numbers
+nothing = record { work = 0; deadline = 0; period = 0; jitter = 0 }
+
 -- a test that does not hold fails
 is_false : (b : Bool) → (b ≡ true → ⊥) → b ≡ false
 is_false true not_true = absurd (not_true refl)

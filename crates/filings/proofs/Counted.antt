@@ -1,5 +1,7 @@
 -- A row more that is counted both ways.
 use Rattle.std.proofs.Common.{◌≡◌, ℕ, ◌+◌, ◌-◌, List, [], ◌∷◌, ◌++◌, map, length, Ok, Result, sym, ap, ◌∙◌, ap₂, arith}
+use Rattle.std.specs.List.{insert}
+use Rattle.std.proofs.lemmas.List.Edits.{insert_end}
 use Rattle.std.proofs.lemmas.List.{append_assoc, append-nil, length-map, map_push}
 use Rattle.rows.specs.declared.frames.FrameNumbers.{FrameNumbers}
 use Rattle.rows.specs.declared.refusals.Fault.{Fault}
@@ -17,7 +19,6 @@ use Rattle.findings.specs.Tables.{findings_below, findings_of}
 use Rattle.findings.proofs.Tables.{length_findings_below}
 use Rattle.brackets.specs.declared.counting.Counts.{Counts}
 use Rattle.brackets.specs.Counting.{both_found, row_counts}
-use Rattle.std.specs.List.{insert}
 
 module _ (m : Meaning) (h : FrameNumbers) where
   -- the findings of rows and one more
@@ -45,4 +46,4 @@ both_counted m r above counts c is answered =
 
 -- a row that is put in below the last of a table stands behind its rows
 pub put_last : (rows : List Row) (rank : ℕ) (r : Row) → rank ≡ length rows + 1 → insert rows (rank - 1) r ≡ rows ++ r ∷ []
-put_last rows rank r last = ap (λ n. insert rows n r) (omega (arith, last)) ∙ insert_last rows r
+put_last rows rank r last = ap (λ n. insert rows n r) (omega (arith, last)) ∙ insert_end rows r

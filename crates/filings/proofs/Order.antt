@@ -1,20 +1,22 @@
 -- The checks of a table, in their order.
-use Rattle.std.proofs.Common.{◌≡◌, ℕ, ◌+◌, ◌%◌, true, not, eqb, List, [], ◌∷◌, ◌++◌, Some, None, Option, sym, ap, ◌∙◌, if◌then◌else◌}
+use Rattle.std.proofs.Common.{◌≡◌, ℕ, ◌+◌, ◌%◌, Result, subst, true, not, eqb, List, [], ◌∷◌, ◌++◌, Some, None, Option, sym, ap, ◌∙◌}
 use Rattle.std.specs.Prelude.{is_some}
+use Rattle.std.specs.Option.{unwrap_or}
 use Rattle.std.proofs.lemmas.Bool.{not_from_true}
 use Rattle.std.proofs.lemmas.List.Sums.{AllPass-from_list_all}
 use Rattle.rows.specs.declared.frames.FrameNumbers.{FrameNumbers}
 use Rattle.rows.specs.declared.judging.Flaw.TheVariants.{Off}
+use Rattle.rows.specs.declared.refusals.Fault.{Fault}
 use Rattle.rows.specs.declared.refusals.Refusal.{Refusal}
 use Rattle.rows.specs.declared.refusals.Refusal.TheVariants.{BadFrame, OffFrame}
 use Rattle.rows.specs.declared.tasks.Numbers.{Numbers}
-use Rattle.rows.specs.Answers.{Check, checked, gives, refuses, refuses_at}
-use Rattle.rows.specs.Books.{flawless_checks}
+use Rattle.rows.specs.Answers.{Check, answer, checked, gives, refuses, refuses_at}
+use Rattle.rows.specs.Books.{flawless_checks, judge_checks}
 use Rattle.rows.specs.Frames.{frame_of}
 use Rattle.rows.specs.Judging.{has_flaw, row_flaws}
-use Rattle.rows.proofs.Checks.{gives_any, passed_first, passes_on, places_pass_on, refuses_any}
+use Rattle.rows.proofs.Checks.{given_is, gives_any, passed_first, passes_on, places_pass_on, refuses_any}
 use Rattle.filings.specs.Frames.{common_frame, is_common}
-use Rattle.filings.specs.Checks.{accuracy_checks, filing_checks, frame_checks, period_check, table_checks}
+use Rattle.filings.specs.Checks.{accuracy_checks, filing_checks, frame_checks, frame_for, period_check, table_checks}
 
 -- checks that answer alike answer alike behind others
 behind : {A : Type 0} (cs ds es : List Check) (z : A) → checked ds z ≡ checked es z → checked (cs ++ ds) z ≡ checked (cs ++ es) z
@@ -29,24 +31,28 @@ framed_alike h table z common is =
     let found = passes_on (not (is_some (common_frame table))) BadFrame 0 (gives z) (ap (λ o. not (is_some o)) is) in
     behind (flawless_checks row_flaws table) (period_check (Some (frame_of h)) table ∷ []) (period_check None table ∷ []) z (on ∙ sym found)
 
--- where there is none, a table without flaws is refused for its frame
-pub unframed : {A B : Type 0} (table : List Numbers) (u : B) (z : A) → gives u ≡ checked (flawless_checks row_flaws table) u → common_frame table ≡ None → checked (table_checks None table) z ≡ refuses BadFrame 0
-unframed table u z passes none =
-    sym (passed_first (flawless_checks row_flaws table) (period_check None table ∷ []) u u passes z) ∙ ap (λ o. refuses_at BadFrame (if not (is_some o) then Some 0 else None) (gives z)) none
+-- so the table on it is the one on the common frame
+pub common_judged : {X : Type 0} (ticks : ℕ) (h : FrameNumbers) (table : List Numbers) (f : X → FrameNumbers × List Numbers) (r : Result X Fault) → is_common table ticks ≡ true → common_frame table ≡ Some ticks → h ≡ frame_of ticks
+    → answer f r ≡ checked (judge_checks h table) (h, table) → answer f r ≡ checked (table_checks None table) (frame_for None table, table)
+common_judged ticks h table f r common is here answered =
+    let frame : h ≡ frame_for None table = here ∙ ap (λ o. frame_of (unwrap_or o 0)) (sym is) in
+    subst (λ k. answer f r ≡ checked (judge_checks k table) (k, table)) here answered
+    ∙ framed_alike ticks table (frame_of ticks, table) common is
+    ∙ ap (λ k. checked (table_checks None table) (k, table)) (sym here ∙ frame)
 
-module _ (frame : Option FrameNumbers) (accuracy : Option ℕ) (table : List Numbers) where
-  module _ {A B : Type 0} (v w : A) (framed : gives v ≡ checked (frame_checks frame) w) where
-    -- once the frame and the accuracy have passed, the table is left
-    pub table_left : {C : Type 0} (x y : B) → gives x ≡ checked (accuracy_checks accuracy) y → (z : C) → checked (table_checks frame table) z ≡ checked (filing_checks frame accuracy table) z
-    table_left x y accurate z =
-        passed_first (accuracy_checks accuracy) (table_checks frame table) x y accurate z
-        ∙ passed_first (frame_checks frame) (accuracy_checks accuracy ++ table_checks frame table) v w framed z
+-- once the frame that is given has passed, and the accuracy, the table is left
+module _ (frame : Option FrameNumbers) (accuracy : Option ℕ) (table : List Numbers) (given : Option FrameNumbers) (framed : gives given ≡ checked (frame_checks frame) frame) where
+  pub table_left : {B C : Type 0} (x y : B) → gives x ≡ checked (accuracy_checks accuracy) y → (z : C) → checked (table_checks given table) z ≡ checked (filing_checks frame accuracy table) z
+  table_left x y accurate z =
+      ap (λ f. checked (table_checks f table) z) (given_is (frame_checks frame) given frame framed)
+      ∙ passed_first (accuracy_checks accuracy) (table_checks frame table) x y accurate z
+      ∙ passed_first (frame_checks frame) (accuracy_checks accuracy ++ table_checks frame table) given frame framed z
 
-    -- what is refused of the table is refused of all of it
-    module _ (x y : B) (accurate : gives x ≡ checked (accuracy_checks accuracy) y) where
-      pub table_refused : {C D : Type 0} (n : Refusal) (at : ℕ) (s : C) → refuses n at ≡ checked (table_checks frame table) s → (z : D) → refuses n at ≡ checked (filing_checks frame accuracy table) z
-      table_refused n at s refused z = refuses_any (table_checks frame table) n at s refused z ∙ table_left x y accurate z
+  module _ {B : Type 0} (x y : B) (accurate : gives x ≡ checked (accuracy_checks accuracy) y) where
+    -- what is refused of it is refused of all of it
+    pub table_refused : {C D : Type 0} (n : Refusal) (at : ℕ) (s : C) → refuses n at ≡ checked (table_checks given table) s → (z : D) → refuses n at ≡ checked (filing_checks frame accuracy table) z
+    table_refused n at s refused z = refuses_any (table_checks given table) n at s refused z ∙ table_left x y accurate z
 
-      -- where nothing is refused of the table, all checks are passed
-      pub table_given : {C D : Type 0} (r s : C) → gives r ≡ checked (table_checks frame table) s → (z : D) → gives z ≡ checked (filing_checks frame accuracy table) z
-      table_given r s given z = gives_any (table_checks frame table) r s given z ∙ table_left x y accurate z
+    -- and where nothing is, all is passed
+    pub table_given : {C D : Type 0} (r s : C) → gives r ≡ checked (table_checks given table) s → (z : D) → gives z ≡ checked (filing_checks frame accuracy table) z
+    table_given r s passed z = gives_any (table_checks given table) r s passed z ∙ table_left x y accurate z

@@ -1,6 +1,6 @@
 -- A sheet filed in turn: a heading and rows behind it.
 use Rattle.std.proofs.Common.{◌≡◌, ℕ, ◌+◌, ◌*◌, ◌<◌, ◌≤◌, true, not, leb, ltb, List, [], ◌∷◌, ◌++◌, map, length, take, Ok, Err, Option, Result, sym, refl, ap, ◌∙◌, ap₂, subst, arith}
-use Rattle.std.proofs.lemmas.List.{map_push}
+use Rattle.std.proofs.lemmas.List.{length-map, map_push}
 use Rattle.std.proofs.lemmas.Bool.{le-ltb, lt-leb, not_from_true}
 use Rattle.std.specs.Prelude.{OnOk}
 use Rattle.std.specs.Result.{IsOk}
@@ -14,9 +14,13 @@ use Rattle.rows.specs.declared.frames.FrameNumbers.{FrameNumbers}
 use Rattle.rows.specs.declared.tasks.Numbers.{Numbers}
 use Rattle.rows.specs.declared.tasks.Row.{Row}
 use Rattle.rows.specs.Answers.{checked, gives, refusal, first_refusal}
+use Rattle.rows.specs.Books.{Book, IsJudged, book}
 use Rattle.rows.specs.Counting.{is_on_frame}
+use Rattle.rows.specs.Judging.{plain, rows_of}
 use Rattle.rows.specs.Lists.{written}
 use Rattle.leaves.specs.declared.entries.Heading.{Heading}
+use Rattle.leaves.specs.declared.entries.HeadingNumbers.{HeadingNumbers}
+use Rattle.leaves.specs.Headings.{heading_plain}
 use Rattle.leaves.specs.declared.entries.Entry.TheVariants.{Heading as heading, Row as row}
 use Rattle.leaves.specs.Entries.{row_place}
 use Rattle.reading.specs.declared.phases.Phase.{Phase}
@@ -28,9 +32,10 @@ use Rattle.writing.specs.Filing.{Files, FilesAll, files}
 use Rattle.writing.proofs.Filed.{rows_filed}
 use Rattle.writing.proofs.Turns.{file_push, turned}
 use Rattle.writing.proofs.Written.{take_written}
+use Rattle.sheets.specs.Reading.{Fits}
 use Rattle.sheets.specs.Tables.{OnSheet, on_sheet, sheet_bytes}
 use Rattle.filings.specs.Checks.{filing_checks}
-use Rattle.filings.specs.Sheets.{room_checks, sheet_checks, sheet_length}
+use Rattle.filings.specs.Sheets.{IsTableOf, room_checks, sheet_checks, sheet_length}
 
 -- a heading opens the rows
 pub opened_by : {p q : Phase} {h : Heading} → Step p (heading h) q → q ≡ Rows h 0
@@ -80,3 +85,19 @@ module _ {p q : Phase} {old now : List ℕ} (rs : List Row) (empty : rows_in p �
 pub sheet_told : (frame : Option FrameNumbers) (accuracy : Option ℕ) (numbers : List Numbers) (size n : ℕ) → gives n ≡ checked (filing_checks frame accuracy numbers) n → sheet_length numbers ≤ size → gives n ≡ checked (sheet_checks frame accuracy numbers size) n
 sheet_told frame accuracy numbers size n given room =
     sym (passes_on (ltb size (sheet_length numbers)) ShortBuffer 0 (gives n) (le-ltb size (sheet_length numbers) room)) ∙ passed_first (filing_checks frame accuracy numbers) (room_checks numbers size) n n given n
+
+-- the rows of numbers, filed behind a heading, are a sheet of these numbers
+pub sheet_written : {p q : Phase} {old between new : List ℕ} (h : Heading) (rs : List Row) (numbers : List Numbers) (n : HeadingNumbers) (end_at : ℕ) → Files Opening old (heading h) p between → FilesAll p between (map row rs) q new
+    → end_at ≡ place_of q → heading_plain h ≡ n → IsJudged (book h.frame rs) → rs ≡ rows_of numbers → map plain (rows_of numbers) ≡ numbers
+    → (t : OnSheet) × IsTableOf n numbers t × (new ≡ written old 0 (sheet_bytes t)) × Fits (take end_at new) (gives t)
+sheet_written {q = q} {new = new} h rs numbers n end_at begun all place named judged are plain_are =
+    let sheet = sheeted h rs begun all in (
+      on_sheet h rs,
+      record { lawful = judged; heading = named; rows = are; numbers = ap (map plain) are ∙ plain_are },
+      sheet.bytes,
+      (judged, ap (λ k. take k new) place ∙ sheet.whole),
+    )
+
+-- there are as many rows as numbers
+pub as_many : (t : Book) (h : FrameNumbers) (numbers : List Numbers) → t ≡ book h (rows_of numbers) → map plain (rows_of numbers) ≡ numbers → length t.rows ≡ length numbers
+as_many t h numbers made are = ap (λ b. length b.rows) made ∙ sym (length-map (rows_of numbers) plain) ∙ ap length are

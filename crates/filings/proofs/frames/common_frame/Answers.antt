@@ -1,6 +1,5 @@
 use Rattle.std.proofs.Common.{◌∙◌, arith}
-use Rattle.filings.proofs.CommonFrames.{all_joined, frame_is, frame_more, none_is, none_more}
-use Rattle.rows.proofs.Making.{nothing}
+use Rattle.filings.proofs.CommonFrames.{all_joined, frame_is, frame_more, none_is, none_more, nothing}
 use Rattle.filings.proofs.frames.common_frame.Goals as goal
 
 pub returns-in_err-frame-clause-answered : goal.returns-in_err-frame-clause-answered

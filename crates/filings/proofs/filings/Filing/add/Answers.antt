@@ -1,5 +1,5 @@
-use Rattle.std.proofs.Common.{◌≡◌, ◌++◌, ◌∷◌, [], length, map, subst, sym, ap, ◌∙◌, arith}
-use Rattle.rows.specs.Books.{Book, book}
+use Rattle.std.proofs.Common.{◌≡◌, ◌+◌, ◌++◌, ◌∷◌, [], length, map, sym, ap, ◌∙◌, arith}
+use Rattle.rows.specs.Books.{book}
 use Rattle.rows.specs.Found.{tells}
 use Rattle.rows.proofs.Checks.{when_ok}
 use Rattle.bounds.specs.Supplied.{exact_steps, linear_tail}
@@ -7,6 +7,7 @@ use Rattle.bounds.specs.Values.{accuracy_of}
 use Rattle.findings.specs.Tables.{findings_of}
 use Rattle.filings.proofs.Counted.{as_many, both_counted, found_more, put_last}
 use Rattle.filings.proofs.filings.Filing.add.Goals as goal
+use Rattle.filings.proofs.filings.Filing.add.Goals.{After-push-2}
 
 pub push-requires : goal.push-requires
 push-requires c =
@@ -19,10 +20,10 @@ push-requires-2 c =
     omega (arith, as_many (linear_tail (accuracy_of f.tail)) f.table.frame f.table.rows f.bounded.items c.self.invariant.1, ap (λ v. length v.rows) c.self.view_is, c.requires.few)
 
 -- the table with the row
-with_is : (c : goal.After-push) → c.put_in.new.self ≡ book c.self.inside.table.frame (c.self.inside.table.rows ++ c.args.row ∷ [])
+with_is : (c : After-push-2) → c.put_in.new.self ≡ book c.self.inside.table.frame (c.self.inside.table.rows ++ c.args.row ∷ [])
 with_is c =
     let t = c.self.inside.table in
-    when_ok _ _ c.put_in.result c.unwrap.result c.unwrap.ensures c.put_in.ensures.put ∙ ap (book t.frame) (put_last t.rows c.rank c.args.row (ap (λ n. n + 1) c.len-rank.ensures.answered))
+    when_ok _ _ c.put_in.result c.unwrap.result c.unwrap.ensures c.put_in.ensures.put ∙ ap (book t.frame) (put_last t.rows (c.len-rank.result + 1) c.args.row (ap (λ n. n + 1) c.len-rank.ensures.answered))
 
 pub invariant_of-self : goal.invariant_of-self
 invariant_of-self c =

@@ -1,14 +1,8 @@
-use Rattle.std.proofs.Common.{◌≡◌, refl, ap, ◌∙◌, subst, sym}
-use Rattle.leaves.specs.declared.entries.Heading.{Heading}
-use Rattle.leaves.specs.Contents.{contents}
-use Rattle.sheets.specs.Tables.{on_sheet}
-use Rattle.sheets.proofs.Leaves.{leaf_lawful, put_answers, puts}
+use Rattle.std.proofs.Common.{◌∙◌}
+use Rattle.filings.proofs.Filed.{filed_so}
 use Rattle.filings.proofs.filings.Filing.file_list.Goals as goal
 
 pub returns : goal.returns
 returns c =
-    let f = c.args.self.now in
-    let fs = c.args.findings.now in
-    let h : Heading = record { frame = f.frame; bound = c.args.bound; framed = c.rows.ensures.judged.frame } in
-    let lawful = leaf_lawful (on_sheet h f.rows) fs c.rows.ensures.judged c.requires in
-    ?
+    filed_so _ c.args.self.now c.rows.result.now c.args.findings.now c.args.buffer.now c.file.new.buffer c.file.result
+    (c.numbers-frame.ensures.answered ∙ c.frame.ensures) c.rows.ensures.answered c.rows.ensures.judged c.requires c.file.ensures.answered c.file.ensures.filed c.file.ensures.refused
