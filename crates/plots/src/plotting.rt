@@ -3,11 +3,9 @@ ghost use Rattle.std.specs.Prelude.{◌≤◌};
 
 use crate::layout::{FOOT, HEIGHT, LEFT, WIDTH};
 use crate::pictures::{Picture, Point};
-use crate::points::is_point;
 use crate::questions::Drawing;
 use crate::scales::scale;
 use bounds::Bound;
-use findings::Demand;
 
 // Amounts that pass the top of the picture go on upward as far as so many heights.
 const BEYOND: u32 = 64;
@@ -40,19 +38,6 @@ fn top(picture: &Picture, unit: u64) -> u32
     u32::try_from(top).unwrap_or(u32::MAX)
 }
 
-// The demand just after a test point, or just after 0, in parts: where the line through the two
-// instants behind it comes from; where the demand bends upward between those, that at the first of them.
-// From the window on nothing is drawn.
-fn risen<B: Bound>(demand: &Demand<'_, B>, at: u32) -> Option<u64> {
-    let here = demand.at(at)?;
-    let next = demand.next_point(at)?;
-    let first = demand.at(at.checked_add(1)?)?;
-    let second = demand.at(at.checked_add(2)?)?;
-    let line = first.saturating_sub(second.saturating_sub(first));
-    let bends = next - at == 1 && next < demand.window();
-    Some(if bends || line < here { first } else { line })
-}
-
 impl<'a, B: Bound> Plot<'a, B> {
     // The drawing on scales that suit it.
     pub(crate) fn new(drawing: &'a Drawing<'a, B>, picture: &'a Picture) -> Self {
@@ -79,14 +64,38 @@ impl<'a, B: Bound> Plot<'a, B> {
         self.drawing.bounded.at(at).unwrap_or(0)
     }
 
-    // The demand by the bound just after an instant, in parts. It rises after test points alone, and
-    // after 0.
-    pub(crate) fn bounded_after(&self, at: u32) -> u64 {
+    // Whether the demand by the bound may bend upward at an instant: some row above has a corner there.
+    fn bends(&self, at: u32) -> bool {
+        let Some(before) = at.checked_sub(1) else {
+            return false;
+        };
+        let drawing = self.drawing;
+        drawing.above.rows().iter().any(|row| {
+            drawing.bound.next_corner(drawing.frame, row, before) == Some(at)
+        })
+    }
+
+    // The demand by the bound just after 0 or an instant at which it may bend upward, in parts: where the
+    // line through the two instants behind it comes from; where it may bend upward between those, that at
+    // the first of them. Past the horizon there is none.
+    fn risen(&self, at: u32) -> Option<u64> {
         let demand = &self.drawing.bounded;
-        if at == 0 || is_point(demand, at) {
-            risen(demand, at).unwrap_or(self.bounded(at))
+        let next = at.checked_add(1)?;
+        let first = demand.at(next)?;
+        if self.bends(next) {
+            return Some(first);
+        }
+        let second = demand.at(next.checked_add(1)?)?;
+        Some(first.saturating_sub(second.saturating_sub(first)))
+    }
+
+    // The demand by the bound just after an instant, in parts.
+    pub(crate) fn bounded_after(&self, at: u32) -> u64 {
+        let demand = self.bounded(at);
+        if at == 0 || self.bends(at) {
+            self.risen(at).unwrap_or(demand)
         } else {
-            self.bounded(at)
+            demand
         }
     }
 

@@ -20,6 +20,8 @@ pub struct Drawing<'a, B: Bound> {
     pub(crate) rank: usize,
     pub(crate) row: &'a Row,
     pub(crate) frame: u32,
+    pub(crate) bound: &'a B,
+    pub(crate) above: &'a Table,
     pub(crate) exact: Demand<'a, ExactSteps>,
     pub(crate) bounded: Demand<'a, B>,
 }
@@ -61,6 +63,8 @@ impl<'a, B: Bound> Drawing<'a, B> {
             rank,
             row,
             frame: above.frame().ticks(),
+            bound,
+            above,
             exact: Demand::of(&ExactSteps, row, above)?,
             bounded: Demand::of(bound, row, above)?,
         })
