@@ -76,11 +76,11 @@ impl Filing {
         self.bounded.push(counts.bounded);
     }
 
-    /// The frame (docs/RULES.md, Frame and parts).
-    pub fn frame(&self) -> &Frame
-        ensures { result.now ≡ self.now.frame }
+    /// The table: its frame, and the rows in rank order, their numbers in ticks (docs/RULES.md, Tables).
+    pub fn table(&self) -> &Table
+        ensures { result.now ≡ book self.now.frame self.now.rows }
     {
-        self.table.frame()
+        &self.table
     }
 
     /// The linear tail that the rows were counted by (docs/RULES.md, Bounds).
@@ -148,7 +148,7 @@ impl Filing {
             self.now (findings_by (meaning_of bound) self.now) c
             × IsPut (gives c) buffer.old buffer.new result }
     {
-        let frame = self.frame().numbers();
+        let frame = self.table.frame().numbers();
         file(Heading { frame, bound }, self.rows(), findings, buffer)
     }
 }

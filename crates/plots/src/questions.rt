@@ -33,7 +33,8 @@ impl<'a, B: Bound> Drawing<'a, B> {
     ghost use Rattle.bounds.specs.Supplied.{exact_steps};
     ghost use Rattle.findings.specs.Asking.{question_checks};
     ghost use Rattle.findings.specs.Demand.{load};
-    ghost use Rattle.findings.specs.Lent.{lent_load, lent_window};
+    ghost use Rattle.findings.specs.Lent.{lent_window};
+    ghost use Rattle.plots.specs.Drawn.{drawn_rank, drawn_task, drawn_row, drawn_exact, drawn_bounded};
 
     /// The drawing of a row below a table, by a bound. The rank and the names are shown as they are
     /// given.
@@ -48,12 +49,13 @@ impl<'a, B: Bound> Drawing<'a, B> {
         above: &'a Table,
     ) -> Result<Drawing<'a, B>, Fault>
         ensures answered { refusal result ≡ first_refusal (question_checks row.now above.now) }
-        ensures shown { IfOk result (λ d. (d.names ≡ names.entry) × (d.rank ≡ rank)) }
-        ensures row { IfOk result (λ d. d.row.now ≡ row.now) }
+        ensures shown { IfOk result (λ d. (d.names ≡ names.entry) × (drawn_rank d ≡ rank)
+            × (drawn_task d ≡ names.entry.task.now)) }
+        ensures row { IfOk result (λ d. drawn_row d ≡ row.now) }
         ensures frame { IfOk result (λ d. d.frame ≡ above.now.frame.ticks) }
-        ensures exact { IfOk result (λ d. lent_load d.exact
+        ensures exact { IfOk result (λ d. drawn_exact d
             ≡ load exact_steps above.now.frame.ticks row.now.work above.now.rows) }
-        ensures bounded { IfOk result (λ d. lent_load d.bounded
+        ensures bounded { IfOk result (λ d. drawn_bounded d
             ≡ load (B.meaning bound.now) above.now.frame.ticks row.now.work above.now.rows) }
         ensures windows { IfOk result (λ d. (lent_window d.exact ≡ window row.now)
             × (lent_window d.bounded ≡ window row.now)) }

@@ -1,14 +1,16 @@
 // The options of a command line.
 ghost use Rattle.std.specs.Prelude.{◌≡◌, Some, codes};
+ghost use Rattle.rows.specs.Frames.{frame_of};
 
 use anyhow::{Context, bail};
+use rows::FrameNumbers;
 
 /// The numbers that were named.
 #[derive(Clone, Copy, Default)]
 pub(crate) struct Options {
     pub(crate) rank: Option<u32>,
     pub(crate) linear: Option<u32>,
-    pub(crate) frame: Option<u32>,
+    pub(crate) frame: Option<FrameNumbers>,
 }
 
 impl Options {
@@ -31,12 +33,12 @@ impl Options {
         ensures linear { name.now ≡ codes "--linear"
             → self.new ≡ record self.old { linear = Some number } }
         ensures frame { name.now ≡ codes "--frame"
-            → self.new ≡ record self.old { frame = Some number } }
+            → self.new ≡ record self.old { frame = Some (frame_of number) } }
     {
         match name {
             "--rank" => self.rank = Some(number),
             "--linear" => self.linear = Some(number),
-            "--frame" => self.frame = Some(number),
+            "--frame" => self.frame = Some(FrameNumbers { ticks: number }),
             _ => bail!("no option: {name:?}"),
         }
         Ok(())

@@ -2,7 +2,6 @@
 use Rattle.std.proofs.Common.{◌≡◌, ℕ, zero, suc, true, List, [], ◌∷◌, Err, Bor, slice_index_or, Some, None, Option, refl, sym, ◌∙◌, subst, inl, inr}
 use Rattle.rows.specs.declared.refusals.Fault.{Fault}
 use Rattle.rows.specs.Answers.{Answer, gives, refuses}
-use Rattle.rows.specs.Refusals.{number}
 use Rattle.leaves.specs.Contents.{Contents}
 use Rattle.reading.specs.Leaves.{Reads}
 use Rattle.reading.specs.Whole.{Fits}

@@ -3,7 +3,9 @@ use Rattle.std.proofs.Common.{◌≡◌, ℕ, ◌<◌, ◌≤◌, Bool, false, L
 use Rattle.std.specs.Prelude.{◌⊎◌}
 use Rattle.std.proofs.lemmas.Bool.{le-ltb}
 use Rattle.std.proofs.lemmas.List.{length-map}
+use Rattle.rows.specs.declared.frames.FrameNumbers.{FrameNumbers}
 use Rattle.rows.specs.declared.refusals.Refusal.{Refusal}
+use Rattle.rows.specs.declared.refusals.Refusal.TheVariants.{ShortBuffer}
 use Rattle.rows.specs.declared.tasks.Numbers.{Numbers}
 use Rattle.rows.specs.Answers.{Check, check, checked, first_refusal, refuses, refuses_at}
 use Rattle.rows.specs.Judging.{plain}
@@ -19,7 +21,7 @@ use Rattle.views.specs.Counted.{IsCountOf, TellsRank}
 use Rattle.views.specs.Troubles.{IsTroubleOf, Tells, TellsFirst, is_output, of_row, of_table}
 
 -- the first refusal of a table that was read is a trouble of it
-pub table_refused : (held : Option (List ℕ)) (h k : Option ℕ) (table : TaskTable) (t : Trouble) → ReadsAll held table → TellsFirst h k table t → IsTroubleOf (of_table held h k) t
+pub table_refused : (held : Option (List ℕ)) (h : Option FrameNumbers) (k : Option ℕ) (table : TaskTable) (t : Trouble) → ReadsAll held table → TellsFirst h k table t → IsTroubleOf (of_table held h k) t
 table_refused held h k table (trouble.Table e) read refused = absurd refused.told
 table_refused held h k table (trouble.Row m) read refused = record { table = table; read = read; refused = refused }
 table_refused held h k table trouble.Frame read refused = record { table = table; read = read; refused = refused }
@@ -33,7 +35,7 @@ table_refused held h k table (trouble.Output e) read refused = absurd refused.to
 table_refused held h k table (trouble.Memory e) read refused = record { table = table; read = read; refused = refused }
 
 -- a trouble of a table is one of the row of a rank
-pub row_refused : (rank : ℕ) (held : Option (List ℕ)) (h k : Option ℕ) (t : Trouble) → IsTroubleOf (of_table held h k) t → IsTroubleOf (of_row rank held h k) t
+pub row_refused : (rank : ℕ) (held : Option (List ℕ)) (h : Option FrameNumbers) (k : Option ℕ) (t : Trouble) → IsTroubleOf (of_table held h k) t → IsTroubleOf (of_row rank held h k) t
 row_refused rank held h k (trouble.Table e) is = is
 row_refused rank held h k (trouble.Row m) is = is
 row_refused rank held h k trouble.Frame is = is
@@ -47,7 +49,7 @@ row_refused rank held h k (trouble.Output e) is = is
 row_refused rank held h k (trouble.Memory e) is = is
 
 -- what is told of a refusal is no failure of the output
-pub told_no_output : (h : Option ℕ) (r : Refusal) (t : Trouble) → Tells h r t → is_output t ≡ false
+pub told_no_output : (h : Option FrameNumbers) (r : Refusal) (t : Trouble) → Tells h r t → is_output t ≡ false
 told_no_output h r (trouble.Table e) told = refl
 told_no_output h r (trouble.Row m) told = refl
 told_no_output h r trouble.Frame told = refl
@@ -61,7 +63,7 @@ told_no_output h r (trouble.Output e) told = absurd told
 told_no_output h r (trouble.Memory e) told = refl
 
 -- a table that was counted and has no row of a rank lacks it
-pub rank_lacking : (rank : ℕ) (held : Option (List ℕ)) (h : Option ℕ) (k : ℕ) (table : TaskTable) (f : Filed) (t : Trouble) → ReadsAll held table → IsCountOf h k table f → TellsRank rank f t → IsTroubleOf (of_row rank held h (Some k)) t
+pub rank_lacking : (rank : ℕ) (held : Option (List ℕ)) (h : Option FrameNumbers) (k : ℕ) (table : TaskTable) (f : Filed) (t : Trouble) → ReadsAll held table → IsCountOf h k table f → TellsRank rank f t → IsTroubleOf (of_row rank held h (Some k)) t
 rank_lacking rank held h k table f (trouble.Rank n) read count told =
     let same : length f.rows ≡ length (table_numbers table) = sym (length-map f.rows plain) ∙ ap length count.tasks in
     record { table = table; read = read; passed = count.passed; count = told.0 ∙ same; lacks = subst (λ n. (rank ≡ 0) ⊎ (n < rank)) (sym told.0) told.1 }
@@ -82,7 +84,7 @@ last_passes [] wrong n at y right = passes_on wrong n at (checked [] y) right
 last_passes (c ∷ cs) wrong n at y right = ap (λ o. refuses_at c.refusal c.at o) (last_passes cs wrong n at y right)
 
 -- where a buffer has room for every sheet, a sheet is refused as its table is
-pub sheet_refused : (frame accuracy : Option ℕ) (ns : List Numbers) (size n at y : ℕ) → size ≡ 551 → length ns ≤ 32 → refuses n at ≡ checked (sheet_checks frame accuracy ns size) y → refuses n at ≡ first_refusal (filing_checks frame accuracy ns)
+pub sheet_refused : (frame : Option FrameNumbers) (accuracy : Option ℕ) (ns : List Numbers) (size : ℕ) (n : Refusal) (at y : ℕ) → size ≡ 551 → length ns ≤ 32 → refuses n at ≡ checked (sheet_checks frame accuracy ns size) y → refuses n at ≡ first_refusal (filing_checks frame accuracy ns)
 sheet_refused frame accuracy ns size n at y room few refused =
     let fits : sheet_length ns ≤ size = omega (arith, room, few) in
-    refuses_any (filing_checks frame accuracy ns) n at y (refused ∙ last_passes (filing_checks frame accuracy ns) _ 19 0 y (le-ltb size (sheet_length ns) fits)) tt
+    refuses_any (filing_checks frame accuracy ns) n at y (refused ∙ last_passes (filing_checks frame accuracy ns) _ ShortBuffer 0 y (le-ltb size (sheet_length ns) fits)) tt

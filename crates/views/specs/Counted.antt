@@ -1,14 +1,18 @@
 -- A task table that was read and counted, and its leaves.
-use Rattle.std.specs.Prelude.{◌≡◌, ℕ, ◌<◌, ◌≤◌, ◌⊎◌, ◌-◌, List, [], ◌∷◌, ◌++◌, length, map, take, Some, Option, slice_get, slice_index_or}
+use Rattle.std.specs.Prelude.{◌≡◌, ℕ, ◌<◌, ◌≤◌, ◌⊎◌, ◌-◌, List, [], ◌∷◌, ◌++◌, length, map, take, Some, Option, slice_index_or}
+use Rattle.rows.specs.declared.frames.FrameNumbers.{FrameNumbers}
 use Rattle.rows.specs.Answers.{Passes}
 use Rattle.rows.specs.Judging.{plain, rows_of}
-use Rattle.rows.specs.Found.{tells}
+use Rattle.bounds.specs.declared.supplied.Supplied.{Supplied}
+use Rattle.bounds.specs.Supplied.{exact_steps, linear_tail}
+use Rattle.findings.specs.Demand.{load}
 use Rattle.leaves.specs.Contents.{Contents, encoding}
 use Rattle.filings.specs.Checks.{filing_checks, frame_for}
 use Rattle.filings.specs.Filings.{Filed, filed, heading_of, exact_findings, bounded_findings, IsLeafOf}
 use Rattle.task_tables.specs.declared.tables.TaskTable.{TaskTable}
 use Rattle.task_tables.specs.Tables.{ReadsAll, table_names, table_numbers}
-use Rattle.plots.specs.declared.drawings.Drawing.{Drawing}
+use Rattle.plots.specs.declared.questions.Drawing.{Drawing}
+use Rattle.plots.specs.Drawn.{drawn_rank, drawn_task, drawn_row, drawn_exact, drawn_bounded}
 use Rattle.views.specs.declared.counted.Counted.{Counted}
 use Rattle.views.specs.declared.troubles.Trouble.{Trouble}
 use Rattle.views.specs.declared.troubles.Trouble.TheVariants as trouble
@@ -23,7 +27,7 @@ filed_of c = c.filing
 
 -- a table is counted: its numbers pass every check, and its tasks are the rows, in their order, on the frame that is
 -- named, or else the common one, and by the linear tail of the accuracy that is named
-pub record IsCountOf (frame : Option ℕ) (accuracy : ℕ) (table : TaskTable) (f : Filed) : Type 0 where
+pub record IsCountOf (frame : Option FrameNumbers) (accuracy : ℕ) (table : TaskTable) (f : Filed) : Type 0 where
   pub passed : Passes (filing_checks frame (Some accuracy) (table_numbers table))
   pub counted : f ≡ filed (frame_for frame (table_numbers table)) accuracy (rows_of (table_numbers table))
   pub tasks : map plain f.rows ≡ table_numbers table
@@ -45,7 +49,7 @@ abbrev pub IsRank : ℕ → Filed → Type 0
 IsRank rank f = (1 ≤ rank) × (rank ≤ length f.rows)
 
 -- a table that a reader held was counted, and has a row of the rank
-pub record HasRank (held : Option (List ℕ)) (frame : Option ℕ) (accuracy rank : ℕ) : Type 0 where
+pub record HasRank (held : Option (List ℕ)) (frame : Option FrameNumbers) (accuracy rank : ℕ) : Type 0 where
   pub table : TaskTable
   pub filed : Filed
   pub read : ReadsAll held table
@@ -57,13 +61,11 @@ abbrev pub TellsRank : ℕ → Filed → Trouble → Type 0
 TellsRank rank f (trouble.Rank rows) = (rows ≡ length f.rows) × ((rank ≡ 0) ⊎ (length f.rows < rank))
 TellsRank rank f _ = ⊥
 
--- a drawing is of the row of a rank of a table that was counted: its name, its frame, the rows above it, and what each
--- count found
-pub record IsDrawnOf (rank : ℕ) (c : Counted) (drawing : Drawing) : Type 0 where
-  pub is_rank : IsRank rank c.filing
-  pub named : drawing.name.now ≡ slice_index_or (table_names c.table) (rank - 1) []
-  pub ranked : drawing.rank ≡ rank
-  pub frame : drawing.frame ≡ c.filing.frame
-  pub above : take rank c.filing.rows ≡ drawing.above.now ++ drawing.row.now ∷ []
-  pub exact : slice_get (exact_findings c.filing) (rank - 1) ≡ Some (tells drawing.exact)
-  pub bounded : slice_get (bounded_findings c.filing) (rank - 1) ≡ Some (tells drawing.bounded)
+-- a drawing is of the row of a rank of a table that was counted, with its name, below the rows before it, in exact
+-- steps and by the linear tail of its accuracy
+pub record IsDrawnOf {g : _} (rank : ℕ) (c : Counted) (drawing : Drawing Supplied g) : Type 0 where
+  pub ranked : drawn_rank drawing ≡ rank
+  pub named : drawn_task drawing ≡ slice_index_or (table_names c.table) (rank - 1) []
+  pub row : take rank c.filing.rows ≡ take (rank - 1) c.filing.rows ++ drawn_row drawing ∷ []
+  pub exact : drawn_exact drawing ≡ load exact_steps c.filing.frame.ticks (drawn_row drawing).work (take (rank - 1) c.filing.rows)
+  pub bounded : drawn_bounded drawing ≡ load (linear_tail c.filing.accuracy) c.filing.frame.ticks (drawn_row drawing).work (take (rank - 1) c.filing.rows)

@@ -2,6 +2,7 @@
 use Rattle.std.specs.Prelude.{◌≡◌, ℕ, ◌+◌, ◌<◌, Bool, true, false, List, [], Option, map, slice_index_or}
 use Rattle.std.specs.Borrow.{Bor}
 use Rattle.std.specs.Option.{option_map}
+use Rattle.rows.specs.declared.refusals.Refusal.{Refusal}
 use Rattle.rows.specs.Answers.{gives, refuses}
 use Rattle.rows.specs.Judging.{plain}
 use Rattle.rows.specs.Lists.{at_rank}
@@ -12,7 +13,7 @@ use Rattle.streams.specs.Held.{MayHold}
 -- bytes are a leaf, or they are refused
 abbrev pub IsLeaf : Bool → List ℕ → Type 0
 IsLeaf true bytes = (c : Contents) × Fits bytes (gives c)
-IsLeaf false bytes = (number : ℕ) × (at : ℕ) × Fits bytes (refuses number at)
+IsLeaf false bytes = (refusal : Refusal) × (at : ℕ) × Fits bytes (refuses refusal at)
 
 -- all that a reader held is a leaf, or is none
 pub record HeldLeaf (held : Option (List ℕ)) (is_leaf : Bool) : Type 0 where

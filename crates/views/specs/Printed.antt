@@ -40,7 +40,7 @@ count_columns =
 -- the line above them: the frame and the accuracy
 abbrev pub head_text : Counted → List ℕ
 head_text c =
-    codes "frame " ++ (decimal c.filing.frame ++ (codes ", linear tail of accuracy " ++ (decimal c.filing.accuracy ++ codes "\n")))
+    codes "frame " ++ (decimal c.filing.frame.ticks ++ (codes ", linear tail of accuracy " ++ (decimal c.filing.accuracy ++ codes "\n")))
 
 -- a text is that of a table: the frame and the accuracy, a line for the columns and one for each row in rank order, and
 -- what stands below them

@@ -3,11 +3,11 @@ use Rattle.std.specs.Prelude.{◌≡◌, ◌≢◌, ℕ, ◌<◌, ◌≤◌, ◌
 use Rattle.std.specs.Io.KnownBytes.{Appends, Keeps}
 use Rattle.std.specs.IoError.{error_kind}
 use Rattle.std.specs.declared.io.ErrorKind.TheVariants.{Interrupted}
+use Rattle.rows.specs.declared.frames.FrameNumbers.{FrameNumbers}
 use Rattle.rows.specs.declared.refusals.Fault.{Fault}
 use Rattle.rows.specs.declared.refusals.Refusal.{Refusal}
 use Rattle.rows.specs.declared.refusals.Refusal.TheVariants.{BadFrame, BadAccuracy}
 use Rattle.rows.specs.Answers.{refuses, first_refusal, Passes}
-use Rattle.rows.specs.Refusals.{number}
 use Rattle.leaves.specs.Contents.{Contents}
 use Rattle.reading.specs.Whole.{Fits}
 use Rattle.filings.specs.Checks.{filing_checks}
@@ -30,7 +30,7 @@ is_of_row _ = true
 
 -- a trouble tells a refusal of numbers: a bad frame that was named, or that there is none where none was named; a bad
 -- accuracy; or that of a row. Where memory ran out, it is not told
-abbrev pub Tells : Option ℕ → Refusal → Trouble → Type 0
+abbrev pub Tells : Option FrameNumbers → Refusal → Trouble → Type 0
 Tells frame refusal trouble.Frame = (is_some frame ≡ true) × (refusal ≡ BadFrame)
 Tells frame refusal trouble.NoFrame = (frame ≡ None) × (refusal ≡ BadFrame)
 Tells frame refusal trouble.Accuracy = refusal ≡ BadAccuracy
@@ -40,20 +40,20 @@ Tells frame refusal _ = ⊥
 
 -- the numbers of a table are refused, on the frame and by the accuracy that are named, and the first of the refusals is
 -- told
-pub record TellsFirst (frame accuracy : Option ℕ) (table : TaskTable) (t : Trouble) : Type 0 where
+pub record TellsFirst (frame : Option FrameNumbers) (accuracy : Option ℕ) (table : TaskTable) (t : Trouble) : Type 0 where
   pub refusal : Refusal
   pub at : ℕ
   pub first : refuses refusal at ≡ first_refusal (filing_checks frame accuracy (table_numbers table))
   pub told : Tells frame refusal t
 
 -- a trouble tells the first refusal of the table that was read
-pub record TellsRefusal (held : Option (List ℕ)) (frame accuracy : Option ℕ) (t : Trouble) : Type 0 where
+pub record TellsRefusal (held : Option (List ℕ)) (frame : Option FrameNumbers) (accuracy : Option ℕ) (t : Trouble) : Type 0 where
   pub table : TaskTable
   pub read : ReadsAll held table
   pub refused : TellsFirst frame accuracy table t
 
 -- a table that was read passes its checks and has so many rows, and none of this rank
-pub record LacksRank (held : Option (List ℕ)) (frame accuracy : Option ℕ) (rank rows : ℕ) : Type 0 where
+pub record LacksRank (held : Option (List ℕ)) (frame : Option FrameNumbers) (accuracy : Option ℕ) (rank rows : ℕ) : Type 0 where
   pub table : TaskTable
   pub read : ReadsAll held table
   pub passed : Passes (filing_checks frame accuracy (table_numbers table))
@@ -82,8 +82,8 @@ TellsDifference c d _ = ⊥
 -- what a view is of: a table that a reader holds, with the frame and the accuracy that are named; the row of a rank of
 -- such a table; two leaves that readers hold, by their names; one leaf; or what was read before
 pub data Subject : Type 0 where
-  of_table : Option (List ℕ) → Option ℕ → Option ℕ → Subject
-  of_row : ℕ → Option (List ℕ) → Option ℕ → Option ℕ → Subject
+  of_table : Option (List ℕ) → Option FrameNumbers → Option ℕ → Subject
+  of_row : ℕ → Option (List ℕ) → Option FrameNumbers → Option ℕ → Subject
   of_leaves : List ℕ → Option (List ℕ) → List ℕ → Option (List ℕ) → Subject
   of_leaf : Subject
   of_nothing : Subject

@@ -6,7 +6,7 @@ ghost use Rattle.views.specs.Troubles.{IsTroubleOf, Tells, TellsFirst, of_table}
 
 use crate::troubles::Trouble;
 use filings::{Filing, Progress, count};
-use rows::{Fault, Refusal};
+use rows::{Fault, FrameNumbers, Refusal};
 use sheets::MOST_ANSWER;
 use std::alloc::{AllocError, Global};
 use std::io::Read;
@@ -16,7 +16,7 @@ use task_tables::{TaskTable, read};
 /// periods; and by the linear tail of which accuracy, from 1 to 64 (docs/PROGRAMS.md, Task tables).
 #[derive(Clone, Copy)]
 pub struct Counting {
-    pub frame: Option<u32>,
+    pub frame: Option<FrameNumbers>,
     pub accuracy: u32,
 }
 
@@ -68,7 +68,12 @@ fn count_read<P: Progress>(
 }
 
 // What is told of a refusal of the numbers of a table, for which a frame was named or not.
-pub(crate) fn trouble(alloc: Global, table: &TaskTable, frame: Option<u32>, fault: Fault) -> Trouble
+pub(crate) fn trouble(
+    alloc: Global,
+    table: &TaskTable,
+    frame: Option<FrameNumbers>,
+    fault: Fault,
+) -> Trouble
     ensures { Tells frame fault.refusal result }
 {
     match (fault.refusal, frame) {

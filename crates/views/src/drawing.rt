@@ -1,16 +1,20 @@
 // The picture of one row's demand.
-ghost use Rattle.std.specs.Prelude.{◌≡◌, ◌+◌, false, length, take, map, Some, MatchOption, IfErr, OnOk};
-ghost use Rattle.std.specs.Option.{option_map};
+ghost use Rattle.std.specs.Prelude.{◌≡◌, ◌-◌, false, take, Some, IfErr, OnOk};
 ghost use Rattle.std.specs.Io.KnownBytes.{Keeps};
+ghost use Rattle.rows.specs.Books.{book};
+ghost use Rattle.bounds.specs.Supplied.{linear_tail};
+ghost use Rattle.bounds.specs.Values.{meaning_of};
 ghost use Rattle.views.specs.Counted.{HasRank, IsDrawnOf, IsRank, TellsRank, filed_of};
 ghost use Rattle.views.specs.Troubles.{FailsBefore, is_output, of_row};
 
 use crate::counted::{Counted, Counting, count_table};
 use crate::troubles::Trouble;
-use bounds::LinearTail;
+use bounds::{Short, Supplied};
 use filings::Progress;
-use plots::{Drawing, draw};
+use plots::{Drawing, Names, draw};
+use rows::Table;
 use std::alloc::Global;
+use std::io;
 use std::io::{Read, Write};
 
 /// Reads a task table, counts it twice, and draws the demand of the row of a rank, from 1, as an SVG
@@ -48,35 +52,51 @@ fn plot_counted<W: Write>(
     ensures failed { IfErr result (λ t. is_output t ≡ false →
         TellsRank rank (filed_of counted.now) t × Keeps (W.contents writer.old) (W.contents writer.new)) }
 {
-    match picture(counted, rank, &counted.filing.tail()) {
-        Some(drawing) => match draw(alloc, &drawing, writer) {
-            Ok(()) => Ok(()),
-            Err(error) => Err(Trouble::Output(error)),
-        },
-        None => Err(Trouble::Rank(counted.filing.rows().len())),
+    let table = counted.filing.table();
+    if rank == 0 || table.len() < rank {
+        return Err(Trouble::Rank(table.len()));
+    }
+    match draw_row(alloc, counted, rank, writer) {
+        Ok(()) => Ok(()),
+        Err(error) => Err(Trouble::Output(error)),
     }
 }
 
-// What is drawn of the row of a rank, if there is one.
-fn picture<'a>(counted: &'a Counted, rank: usize, tail: &'a LinearTail) -> Option<Drawing<'a>>
-    ensures { MatchOption result
-        (TellsRank rank (filed_of counted.now) (Trouble.Rank (length (filed_of counted.now).rows)))
-        (IsDrawnOf rank counted.now) }
+// Draws the demand of the row of a rank, which there is.
+fn draw_row<W: Write>(
+    alloc: Global,
+    counted: &Counted,
+    rank: usize,
+    writer: &mut W,
+) -> io::Result<()>
+    requires { IsRank rank (filed_of counted.now) }
 {
-    let filing = &counted.filing;
-    let (rows, exact, bounded) = (filing.rows(), filing.exact(), filing.bounded());
-    if rank == 0 || rows.len() < rank {
-        return None;
-    }
-    let place = rank - 1;
-    Some(Drawing {
-        name: counted.table.name(rank),
-        rank,
-        frame: filing.frame(),
-        row: &rows[place],
-        above: &rows[..place],
-        tail,
-        exact: exact[place],
-        bounded: bounded[place],
-    })
+    let bound = Supplied::LinearTail(counted.filing.tail());
+    let short = format!(in alloc; "{}", Short(bound))?;
+    let above = counted.filing.table().above(rank);
+    let drawing = drawing_of(counted, rank, &bound, short.as_str(), &above);
+    draw(alloc, &drawing, writer)
+}
+
+// What is drawn of the row of a rank, below the rows before it, by a bound with its name in short.
+fn drawing_of<'a>(
+    counted: &'a Counted,
+    rank: usize,
+    bound: &'a Supplied,
+    short: &'a str,
+    above: &'a Table,
+) -> Drawing<'a, Supplied>
+    requires rank { IsRank rank (filed_of counted.now) }
+    requires bound { meaning_of bound.now ≡ linear_tail (filed_of counted.now).accuracy }
+    requires above { above.now
+        ≡ book (filed_of counted.now).frame (take (rank - 1) (filed_of counted.now).rows) }
+    ensures { IsDrawnOf rank counted.now result }
+{
+    let (family, _) = bound.plain();
+    let names = Names {
+        task: counted.table.name(rank),
+        bound: family.name(),
+        short,
+    };
+    Drawing::of(names, rank, bound, &counted.filing.rows()[rank - 1], above).unwrap()
 }

@@ -70,7 +70,7 @@ impl Counted {
     fn head(&self, alloc: Global) -> Result<String, AllocError>
         ensures { IfOk result (λ text. string_bytes text ≡ head_text self.now) }
     {
-        let (frame, accuracy) = (self.filing.frame(), self.filing.tail().accuracy());
+        let (frame, accuracy) = (ticks(&self.filing), self.filing.tail().accuracy());
         format!(in alloc; "frame {frame}, linear tail of accuracy {accuracy}\n")
     }
 
@@ -143,6 +143,13 @@ fn slack(row: &Row, finding: &Finding) -> Option<u64>
     Some(u64::from(row.deadline).saturating_sub(response))
 }
 
+// The length of the frame, in ticks.
+fn ticks(filing: &Filing) -> u32
+    ensures { result ≡ filing.now.frame.ticks }
+{
+    filing.table().frame().ticks()
+}
+
 // How much later the second first rest is than the first, of a row that meets by both counts.
 fn gap(exact: &Finding, bounded: &Finding) -> Option<u64>
     ensures { result ≡ gap (verdict_rest exact.now.verdict) (verdict_rest bounded.now.verdict) }
@@ -156,7 +163,7 @@ fn gap(exact: &Finding, bounded: &Finding) -> Option<u64>
 
 // What stands below the table: how much of the processor it utilises, and how many rows meet by each count.
 fn foot(alloc: Global, filing: &Filing) -> Result<String, AllocError> {
-    let utilisation = Utilisation::of(filing.frame(), filing.rows());
+    let utilisation = Utilisation::of(ticks(filing), filing.rows());
     let rows = filing.rows().len();
     let (exact, bounded) = (count_met(filing.exact()), count_met(filing.bounded()));
     format!(in alloc;

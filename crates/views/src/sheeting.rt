@@ -7,6 +7,7 @@ use crate::counted::trouble;
 use crate::outputs::write_out;
 use crate::troubles::Trouble;
 use filings::write_sheet;
+use rows::FrameNumbers;
 use sheets::MOST_SHEET;
 use std::alloc::Global;
 use std::io::{Read, Write};
@@ -20,7 +21,7 @@ use task_tables::{TaskTable, read};
 pub fn sheet<R: Read, W: Write>(
     alloc: Global,
     reader: &mut R,
-    frame: Option<u32>,
+    frame: Option<FrameNumbers>,
     accuracy: Option<u32>,
     writer: &mut W,
 ) -> Result<(), Trouble>
@@ -44,7 +45,7 @@ pub fn sheet<R: Read, W: Write>(
 fn put_sheet(
     alloc: Global,
     table: &TaskTable,
-    frame: Option<u32>,
+    frame: Option<FrameNumbers>,
     accuracy: Option<u32>,
     buffer: &mut [u8; MOST_SHEET],
 ) -> Result<usize, Trouble>

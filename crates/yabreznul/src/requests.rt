@@ -1,6 +1,7 @@
 // What the arguments of a subcommand ask.
 use crate::inputs::Source;
 use clap::ArgMatches;
+use rows::FrameNumbers;
 use std::alloc::{AllocError, Global};
 use views::{Counting, Layout};
 
@@ -32,10 +33,16 @@ fn sources<'a>(alloc: Global, words: &[&'a str]) -> Result<Vec<Source<'a>>, Allo
     Ok(sources)
 }
 
+/// The frame that is named, if one is.
+pub(crate) fn frame(given: &ArgMatches<'_>) -> Option<FrameNumbers> {
+    let ticks = given.get_one("frame")?;
+    Some(FrameNumbers { ticks })
+}
+
 /// How a table is counted; none without an accuracy.
 pub(crate) fn counting(given: &ArgMatches<'_>) -> Option<Counting> {
     Some(Counting {
-        frame: given.get_one("frame"),
+        frame: frame(given),
         accuracy: given.get_one("linear")?,
     })
 }

@@ -2,13 +2,14 @@
 use crate::complaints::{Failed, or_complain};
 use crate::inputs::{Source, open_or_complain};
 use crate::outputs::print;
-use crate::requests::source;
+use crate::requests::{frame, source};
 use clap::ArgMatches;
+use rows::FrameNumbers;
 
 /// Writes the sheet of a table to standard output.
 pub(crate) fn sheet(rt: &HostRuntime, given: &ArgMatches<'_>) -> Result<(), Failed> {
     let table = source(given, "table");
-    let sheet = written(rt, table, given.get_one("frame"), given.get_one("linear"))?;
+    let sheet = written(rt, table, frame(given), given.get_one("linear"))?;
     print(rt, &sheet)
 }
 
@@ -16,7 +17,7 @@ pub(crate) fn sheet(rt: &HostRuntime, given: &ArgMatches<'_>) -> Result<(), Fail
 fn written(
     rt: &HostRuntime,
     table: Source<'_>,
-    frame: Option<u32>,
+    frame: Option<FrameNumbers>,
     accuracy: Option<u32>,
 ) -> Result<Vec<u8>, Failed> {
     let mut reader = open_or_complain(rt, table)?;

@@ -1,7 +1,6 @@
 use Rattle.std.proofs.Common.{◌≡◌, Some, subst}
 use Rattle.rows.proofs.Checks.{refuses_any}
 use Rattle.rows.specs.Answers.{first_refusal, refuses}
-use Rattle.rows.specs.Refusals.{number}
 use Rattle.filings.specs.Checks.{filing_checks}
 use Rattle.views.proofs.counted.count_read.Goals as goal
 

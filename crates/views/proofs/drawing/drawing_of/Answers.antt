@@ -1,0 +1,43 @@
+use Rattle.std.proofs.Common.{◌≡◌, ◌+◌, ◌-◌, ◌<◌, ◌++◌, ◌∷◌, [], length, take, get_or, sym, ap, ap₂, ◌∙◌, subst, arith}
+use Rattle.std.proofs.lemmas.List.{take_more}
+use Rattle.std.proofs.lemmas.Result.{IfOk-at_ok}
+use Rattle.rows.specs.Answers.{Passes}
+use Rattle.rows.specs.Books.{book}
+use Rattle.rows.proofs.Checks.{is_answered}
+use Rattle.bounds.specs.Supplied.{exact_steps}
+use Rattle.bounds.specs.Values.{meaning_of}
+use Rattle.findings.specs.Asking.{question_checks}
+use Rattle.findings.specs.Demand.{load}
+use Rattle.findings.proofs.OnFrame.{can_ask}
+use Rattle.plots.specs.Drawn.{drawn_row}
+use Rattle.views.proofs.drawing.drawing_of.Goals as goal
+
+pub unwrap-requires : goal.unwrap-requires
+unwrap-requires c =
+    let f = c.args.counted.now.filing in
+    let row = c.index-rows-rank.result in
+    let place = c.args.rank - 1 in
+    let stands : row ≡ get_or f.rows place row = c.index-rows-rank.is ∙ ap (λ rs. get_or rs place row) c.rows.ensures.answered in
+    let asked : Passes (question_checks row (book f.frame (take place f.rows))) = can_ask (book f.frame f.rows) place row c.rows.ensures.judged (omega (arith, c.requires.rank)) stands in
+    is_answered (λ d. tt) (question_checks row c.args.above.now) tt c.of.result (subst (λ b. Passes (question_checks row b)) (sym c.requires.above) asked) c.of.ensures.answered
+
+pub returns : goal.returns
+returns c =
+    let f = c.args.counted.now.filing in
+    let row = c.index-rows-rank.result in
+    let place = c.args.rank - 1 in
+    let stands : row ≡ get_or f.rows place row = c.index-rows-rank.is ∙ ap (λ rs. get_or rs place row) c.rows.ensures.answered in
+    let within : place < length f.rows = omega (arith, c.requires.rank) in
+    let up : c.args.rank ≡ place + 1 = omega (arith, c.requires.rank) in
+    let d = c.unwrap.result in
+    let shown = IfOk-at_ok _ c.unwrap.ensures c.of.ensures.shown in
+    let drawn : drawn_row d ≡ row = IfOk-at_ok _ c.unwrap.ensures c.of.ensures.row in
+    let exact = IfOk-at_ok _ c.unwrap.ensures c.of.ensures.exact in
+    let bounded = IfOk-at_ok _ c.unwrap.ensures c.of.ensures.bounded in
+    record {
+      ranked = shown.1;
+      named = shown.2 ∙ c.name.ensures.name (omega (arith, c.requires.rank));
+      row = ap (λ n. take n f.rows) up ∙ take_more f.rows place row within ∙ ap (λ r. take place f.rows ++ r ∷ []) (sym stands ∙ sym drawn);
+      exact = exact ∙ ap₂ (λ b r. load exact_steps b.frame.ticks r.work b.rows) c.requires.above (sym drawn);
+      bounded = bounded ∙ ap₂ (λ b r. load (meaning_of c.args.bound.now) b.frame.ticks r.work b.rows) c.requires.above (sym drawn) ∙ ap (λ m. load m f.frame.ticks (drawn_row d).work (take place f.rows)) c.requires.bound;
+    }
