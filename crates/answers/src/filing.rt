@@ -26,7 +26,7 @@ fn put_in_turn(entries: &[Entry], buffer: &mut [u8]) -> Result<usize, Fault> {
     let Some(Entry::Heading(heading)) = entries.first().copied() else {
         return Err(Refusal::OutOfTurn.at(0));
     };
-    let mut leaf = begin(heading.numbers(), buffer)?;
+    let mut leaf = begin(heading, buffer)?;
     put_rows(&mut leaf, entries, buffer)?;
     let mut leaf = leaf.turn();
     put_findings(&mut leaf, entries, buffer)?;
@@ -81,7 +81,7 @@ pub(crate) fn file_whole<'a>(
     let mut buffer = buffer(alloc, bytes.len())?;
     Ok(Put {
         about: bytes,
-        answered: file(leaf.heading().numbers(), &rows, &findings, &mut buffer),
+        answered: file(leaf.heading(), &rows, &findings, &mut buffer),
         buffer,
     })
 }

@@ -6,7 +6,7 @@ use crate::puts::Put;
 use crate::told::{OrNone, Told};
 use leaves::{Entry, HeadingNumbers};
 use reading::{Reader, read};
-use rows::{Fault, Numbers};
+use rows::{Fault, FrameNumbers, Numbers};
 use std::alloc::{AllocError, Global};
 use std::fmt;
 use std::io::Write;
@@ -149,11 +149,11 @@ impl fmt::Display for EntryWords {
         match self.0 {
             Entry::Heading(heading) => {
                 let HeadingNumbers {
-                    frame,
+                    frame: FrameNumbers { ticks },
                     bound,
                     accuracy,
                 } = heading.numbers();
-                write!(f, "F {frame} {bound} {accuracy}")
+                write!(f, "F {ticks} {bound} {accuracy}")
             }
             Entry::Row(row) => {
                 let Numbers {

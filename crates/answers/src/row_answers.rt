@@ -22,11 +22,23 @@ pub(crate) fn answer_row<W: Write + Drop>(
     } = question;
     let table = frame.judge().and_then(|frame| Table::of(&frame, above));
     let table = table.as_ref().map_err(|fault| *fault);
-    let exact = Told(table.and_then(|table| find(&ExactSteps, row, table)).map(Found));
+    let exact = Told(
+        table
+            .and_then(|table| find(&ExactSteps, row, table))
+            .map(Found),
+    );
     let bounded = Told(table.and_then(|table| find(tail, row, table)).map(Found));
-    let both = Told(table.and_then(|table| count_both(tail, row, table)).map(Both));
+    let both = Told(
+        table
+            .and_then(|table| count_both(tail, row, table))
+            .map(Both),
+    );
     let response = Told(response_time(row, above).map(OrNone));
-    let least = Told(table.and_then(|table| least_accuracy(row, table)).map(OrNone));
+    let least = Told(
+        table
+            .and_then(|table| least_accuracy(row, table))
+            .map(OrNone),
+    );
     let slow = Told(slow_rest(tail.accuracy(), row, above).map(OrNone));
     writeln!(
         writer,
