@@ -52,9 +52,9 @@ pub(crate) fn misses(points: u32) -> Finding {
 }
 
 // The numbers of a heading: frame, bound and accuracy.
-pub(crate) fn heading(frame: u32, bound: u8, accuracy: u8) -> HeadingNumbers {
+pub(crate) fn heading(ticks: u32, bound: u8, accuracy: u8) -> HeadingNumbers {
     HeadingNumbers {
-        frame,
+        frame: FrameNumbers { ticks },
         bound,
         accuracy,
     }

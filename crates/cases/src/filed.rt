@@ -4,7 +4,7 @@ use crate::agreeing::agree;
 use crate::building::{heading, meets, misses, row};
 use reading::read;
 use rows::{Fault, Finding, Refusal, Row};
-use writing::file;
+use writing::file_numbers;
 
 // The frame, bound and accuracy of a heading.
 type Plain = (u32, u8, u8);
@@ -21,7 +21,7 @@ fn filed((frame, bound, accuracy): Plain, counts: Counts) -> (Result<usize, Faul
     let mut list = [misses(0); 33];
     list[..bad.min(33)].fill(misses(1));
     let mut buffer = [0xEE; 844];
-    let answer = file(
+    let answer = file_numbers(
         heading(frame, bound, accuracy),
         &table[..rows.min(33)],
         &list[..findings.min(33)],
@@ -59,7 +59,7 @@ fn leaves_that_are_refused(rt: HostRuntime) {
 // What a leaf of no row is answered in a buffer just long enough, and the buffer.
 fn empty() -> (Result<usize, Fault>, [u8; 12]) {
     let mut buffer = [0xEE; 12];
-    let answer = file(heading(12, 0, 0), &[], &[], &mut buffer);
+    let answer = file_numbers(heading(12, 0, 0), &[], &[], &mut buffer);
     (answer, buffer)
 }
 
@@ -71,7 +71,7 @@ fn full() -> (Result<usize, Fault>, [u8; 844]) {
     let mut findings = [meets(1, 1); 32];
     findings[31] = misses(9);
     let mut buffer = [0xEE; 844];
-    let answer = file(heading(12, 1, 64), &rows, &findings, &mut buffer);
+    let answer = file_numbers(heading(12, 1, 64), &rows, &findings, &mut buffer);
     (answer, buffer)
 }
 

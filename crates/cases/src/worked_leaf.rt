@@ -3,7 +3,7 @@ use crate::building::{heading, meets, row};
 use leaves::HeadingNumbers;
 use reading::read;
 use rows::{Fault, Finding, Row};
-use writing::{ClosedLeaf, FindingsLeaf, RowsLeaf, begin, file};
+use writing::{ClosedLeaf, FindingsLeaf, RowsLeaf, begin, file_numbers};
 
 // Three rows counted by the linear tail of accuracy 3 at frame 12: 90 bytes, and a byte to spare.
 pub(crate) const WORKED: [u8; 91] = [
@@ -51,7 +51,7 @@ fn file_findings(
 // A leaf filed in turn, each state by a name of its own: .ci/beside puts misuses of a state behind
 // the lines that begin one, and looks that none of them compiles.
 fn in_turn(rows: &[Row], findings: &[Finding], buffer: &mut [u8]) -> Result<ClosedLeaf, Fault> {
-    let mut rows_leaf = begin(heading(12, 1, 3), buffer)?;
+    let mut rows_leaf = begin(heading(12, 1, 3).judge(0)?, buffer)?;
     file_rows(&mut rows_leaf, rows, buffer)?;
     let mut findings_leaf = rows_leaf.turn();
     file_findings(&mut findings_leaf, findings, buffer)?;
@@ -70,7 +70,7 @@ fn filed_in_turn() -> Result<(u32, [u8; 91]), Fault> {
 fn filed_at_once() -> (Result<usize, Fault>, [u8; 91]) {
     let mut buffer = [0xEE; 91];
     let (rows, findings) = (worked_rows(), worked_findings());
-    let answer = file(heading(12, 1, 3), &rows, &findings, &mut buffer);
+    let answer = file_numbers(heading(12, 1, 3), &rows, &findings, &mut buffer);
     (answer, buffer)
 }
 

@@ -5,7 +5,7 @@ use crate::building::{heading, meets, row};
 use reading::Phase;
 use rows::{Fault, Finding, HORIZON, Refusal, Row, Verdict};
 use std::test::Fail;
-use writing::{ClosedLeaf, FindingsLeaf, RowsLeaf, begin};
+use writing::{ClosedLeaf, FindingsLeaf, RowsLeaf, begin_numbers};
 
 // The first bytes of a buffer.
 fn front(buffer: &mut [u8], size: usize) -> &mut [u8] {
@@ -16,7 +16,7 @@ fn front(buffer: &mut [u8], size: usize) -> &mut [u8] {
 // A leaf on a frame of 12 with so many rows, each filed where no byte is to spare.
 fn with_rows(rows: usize, buffer: &mut [u8]) -> Result<RowsLeaf, Fault> {
     let on = row(1, 4, 4, 0);
-    let mut leaf = begin(heading(12, 1, 3), front(buffer, 7))?;
+    let mut leaf = begin_numbers(heading(12, 1, 3), front(buffer, 7))?;
     for _ in 0..rows {
         let end = leaf.phase().place() as usize + 17;
         leaf.row(&on, front(buffer, end))?;
@@ -38,7 +38,7 @@ fn with_findings(rows: usize, findings: usize, buffer: &mut [u8]) -> Result<Find
 // Where a leaf stands that is begun with a heading and so many bytes of room, and its buffer.
 fn begun(frame: u32, bound: u8, accuracy: u8, size: usize) -> (Result<u32, Fault>, [u8; 7]) {
     let mut buffer = [0xEE; 7];
-    let answer = match begin(heading(frame, bound, accuracy), &mut buffer[..size.min(7)]) {
+    let answer = match begin_numbers(heading(frame, bound, accuracy), &mut buffer[..size.min(7)]) {
         Ok(leaf) => Ok(leaf.phase().place()),
         Err(fault) => Err(fault),
     };
