@@ -5,7 +5,7 @@ use Rattle.rows.specs.Counting.{is_rise}
 use Rattle.bounds.specs.Instants.{least, count}
 use Rattle.bounds.specs.Supplied.{is_before_tail, linear_tail}
 use Rattle.findings.specs.Findings.{first_rest, stop, points}
-use Rattle.brackets.specs.Bracketing.{slow_rest}
+use Rattle.brackets.specs.Speeds.{rest_at_speed}
 use Rattle.worked.specs.Table.{Worked, row_b}
 use Rattle.worked.proofs.Calls.{calls_come}
 
@@ -36,7 +36,7 @@ corners_of_b t =
     (cases_lt t 12)
 
 pub worked : Worked
-unfolding least count first_rest stop points slow_rest
+unfolding least count first_rest stop points rest_at_speed
 worked = record {
   exact_a = refl;
   exact_b = refl;
