@@ -83,12 +83,9 @@ def check(picture, data, rank, accuracy):
     judged = Judged(data, accuracy)
     frame, row, above = judged.frame, judged.rows[rank - 1], tuple(judged.rows[:rank - 1])
     exact, tail = EXACT_STEPS, LINEAR_TAILS[accuracy]
-    tail_points = test_points(tail, row, above)
     numbers = ', '.join(f'{name} {number}' for name, number in zip('CDTJ', row))
     assert picture.told('title') == f'rank {rank}, {judged.tasks[rank - 1].name}: {numbers}'
-    count = len(tail_points)
-    drawn = f'; drawn {count} of {count} test points by the tail'
-    assert picture.told('desc') == plot_numbers(data, rank, accuracy).strip('\n') + drawn
+    assert picture.told('desc') == plot_numbers(data, rank, accuracy).strip('\n')
 
     def height(bound, instant):
         return demand(frame, bound, row, above, instant) / frame
