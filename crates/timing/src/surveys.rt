@@ -9,11 +9,7 @@ use std::rt::Clock;
 use std::time::Instant;
 
 // The digest after a survey of each table, and how many rows met.
-fn survey_round<B: Bound>(
-    bound: &B,
-    tables: &[Table],
-    digest: u64,
-) -> Result<(usize, u64), Fault> {
+fn survey_round<B: Bound>(bound: &B, tables: &[Table], digest: u64) -> Result<(usize, u64), Fault> {
     let mut list = NO_FINDINGS;
     let mut met: usize = 0;
     let mut digest = digest;
