@@ -3,7 +3,7 @@ ghost use Rattle.std.specs.Prelude.{◌<◌, length};
 
 use crate::filing::{file_in_turn, file_whole, with_runs};
 use crate::puts::Put;
-use crate::told::{OrNone, Told};
+use crate::told::{OrNone, ToldAnswer};
 use leaves::{Entry, HeadingNumbers};
 use reading::{Reader, read};
 use rows::{Fault, FrameNumbers, Numbers};
@@ -19,13 +19,13 @@ pub(crate) fn answer_leaf<W: Write + Drop>(
     writer: &mut W,
 ) -> anyhow::Result<()> {
     let mut reader = Reader::new(bytes);
-    let entries = Told(entry_by_entry(alloc, bytes, &mut reader)?);
-    let again = Told(
+    let entries = ToldAnswer(entry_by_entry(alloc, bytes, &mut reader)?);
+    let again = ToldAnswer(
         reader
             .next_entry()
             .map(|entry| OrNone(entry.map(EntryWords))),
     );
-    let whole = Told(as_a_whole(alloc, bytes)?);
+    let whole = ToldAnswer(as_a_whole(alloc, bytes)?);
     writeln!(writer, "{entries}, {again}, {whole}")?;
     Ok(())
 }

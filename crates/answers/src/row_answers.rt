@@ -1,6 +1,6 @@
 // What is answered about a row.
 use crate::row_questions::RowQuestion;
-use crate::told::{OrNone, Told};
+use crate::told::{OrNone, ToldAnswer};
 use bounds::{Bound, ExactSteps};
 use brackets::{Counts, count_both, least_accuracy, response_time, slow_rest};
 use findings::find;
@@ -22,24 +22,24 @@ pub(crate) fn answer_row<W: Write + Drop>(
     } = question;
     let table = frame.judge().and_then(|frame| Table::of(&frame, above));
     let table = table.as_ref().map_err(|fault| *fault);
-    let exact = Told(
+    let exact = ToldAnswer(
         table
             .and_then(|table| find(&ExactSteps, row, table))
             .map(Found),
     );
-    let bounded = Told(table.and_then(|table| find(tail, row, table)).map(Found));
-    let both = Told(
+    let bounded = ToldAnswer(table.and_then(|table| find(tail, row, table)).map(Found));
+    let both = ToldAnswer(
         table
             .and_then(|table| count_both(tail, row, table))
             .map(Both),
     );
-    let response = Told(response_time(row, above).map(OrNone));
-    let least = Told(
+    let response = ToldAnswer(response_time(row, above).map(OrNone));
+    let least = ToldAnswer(
         table
             .and_then(|table| least_accuracy(row, table))
             .map(OrNone),
     );
-    let slow = Told(slow_rest(tail.accuracy(), row, above).map(OrNone));
+    let slow = ToldAnswer(slow_rest(tail.accuracy(), row, above).map(OrNone));
     writeln!(
         writer,
         "{exact}, {bounded}, {both}, {response}, {least}, {slow}"

@@ -14,10 +14,10 @@ pub(crate) fn write_refused<W: fmt::Write>(
 
 /// What a call answers: a value, or the refusal with its place.
 #[derive(Drop)]
-pub(crate) struct Told<T>(pub(crate) Result<T, Fault>);
+pub(crate) struct ToldAnswer<T>(pub(crate) Result<T, Fault>);
 
 // The value, or the refusal.
-impl<T: fmt::Display> fmt::Display for Told<T> {
+impl<T: fmt::Display> fmt::Display for ToldAnswer<T> {
     fn fmt<W: fmt::Write>(&self, f: &mut fmt::Formatter<W>) -> fmt::Result {
         match &self.0 {
             Ok(value) => write!(f, "{value}"),

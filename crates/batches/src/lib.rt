@@ -82,11 +82,11 @@ impl Bound for Batches {
     ghost use Rattle.bounds.specs.Supplied.{exact_steps};
     ghost use Rattle.batches.specs.Batching.{batches};
     ghost use Rattle.batches.specs.Making.{parameters_of};
-    ghost use Rattle.batches.specs.Lemmas.BatchLaws.{laws_of};
+    ghost use Rattle.batches.specs.Lemmas.BatchLaws.{batches_laws};
 
     ghost meaning = { λ b. batches (parameters_of b) };
 
-    ghost lawful = { laws_of };
+    ghost lawful = { batches_laws };
 
     fn amount(&self, frame: u32, row: &Row, at: u32) -> u64 {
         if !asked(frame, row, at) {

@@ -18,7 +18,7 @@ use Rattle.writing.specs.Whole.{file_checks, IsFiled}
 use Rattle.sheets.specs.Answers.{IsPut}
 use Rattle.sheets.specs.Tables.{on_sheet}
 use Rattle.sheets.proofs.Leaves.{leaf_lawful, put_answers, puts}
-use Rattle.filings.specs.Filings.{Filed, findings_by, heading_of, IsLeafOf}
+use Rattle.filings.specs.Filings.{Filed, findings_by, heading_numbers, IsLeafOfCount}
 
 -- a frame has a length from 1 tick on
 pub frame_low : (h : ℕ) → is_frame h ≡ true → 1 ≤ h
@@ -29,7 +29,7 @@ pub filed_so : (h : Heading) (f : Filed) (rows : List Row) (fs : List Finding) (
     → map tells fs ≡ findings_by (meaning_of h.bound) f
     → answer (λ n. n) r ≡ checked (file_checks h.frame rows fs (length old)) (leaf_length (length rows))
     → IfOk r (λ n. IsFiled (contents h rows fs) old new n) → OnErr r (new ≡ old)
-    → (c : Contents) × IsLeafOf (heading_of f.frame (bound_numbers h.bound).0 (bound_numbers h.bound).1) f (findings_by (meaning_of h.bound) f) c × IsPut (gives c) old new r
+    → (c : Contents) × IsLeafOfCount (heading_numbers f.frame (bound_numbers h.bound).0 (bound_numbers h.bound).1) f (findings_by (meaning_of h.bound) f) c × IsPut (gives c) old new r
 filed_so h f rows fs old new r frame are judged found told filed refused =
     let c = contents h rows fs in
     let same : book h.frame rows ≡ book f.frame f.rows = ap₂ book frame are in
@@ -38,7 +38,7 @@ filed_so h f rows fs old new r frame are judged found told filed refused =
       c,
       record {
         lawful = lawful;
-        heading = ap (λ k. heading_of k (bound_numbers h.bound).0 (bound_numbers h.bound).1) frame;
+        heading = ap (λ k. heading_numbers k (bound_numbers h.bound).0 (bound_numbers h.bound).1) frame;
         rows = are;
         findings = found;
       },

@@ -9,7 +9,7 @@ use Rattle.rows.specs.declared.refusals.Fault.{Fault}
 use Rattle.rows.specs.Times.{most_rows}
 use Rattle.rows.proofs.Checks.{passed_first, passes_on}
 use Rattle.leaves.specs.Entries.{row_size}
-use Rattle.writing.specs.Checks.{row_checks}
+use Rattle.writing.specs.Checks.{filed_row_checks}
 use Rattle.rows.specs.declared.frames.FrameNumbers.{FrameNumbers}
 use Rattle.rows.specs.declared.tasks.Numbers.{Numbers}
 use Rattle.rows.specs.declared.tasks.Row.{Row}
@@ -32,7 +32,7 @@ use Rattle.writing.specs.Filing.{Files, FilesAll, files}
 use Rattle.writing.proofs.Filed.{rows_filed}
 use Rattle.writing.proofs.Turns.{file_push, turned}
 use Rattle.writing.proofs.Written.{take_written}
-use Rattle.sheets.specs.Reading.{Fits}
+use Rattle.sheets.specs.Reading.{FitsSheet}
 use Rattle.sheets.specs.Tables.{OnSheet, on_sheet, sheet_bytes}
 use Rattle.filings.specs.Checks.{filing_checks}
 use Rattle.filings.specs.Sheets.{IsTableOf, room_checks, sheet_checks, sheet_length}
@@ -61,11 +61,11 @@ sheeted {p = p} {q = q} {old = old} {between = between} {new = new} h rs begun a
 -- rows filed behind a heading, and one row of the same table more
 module _ {p q : Phase} {old now : List ℕ} (rs : List Row) (empty : rows_in p ≡ 0) (all : FilesAll p old (map row rs) q now) (r : Row) where
   -- is not refused, where there is room for it
-  pub row_taken : (answered : Result (Unit {0}) Fault) → refusal answered ≡ first_refusal (row_checks q r (length now)) → length rs < most_rows → is_on_frame (frame_in p).ticks r ≡ true → place_of p + (1 + row_size) * (length rs + 1) ≤ length old → IsOk answered
+  pub row_taken : (answered : Result (Unit {0}) Fault) → refusal answered ≡ first_refusal (filed_row_checks q r (length now)) → length rs < most_rows → is_on_frame (frame_in p).ticks r ≡ true → place_of p + (1 + row_size) * (length rs + 1) ≤ length old → IsOk answered
   row_taken answered told few on room =
       let so_far = rows_filed rs all in
       let here : is_on_frame (frame_in q).ticks r ≡ true = ap (λ h. is_on_frame h.ticks r) so_far.frame ∙ on in
-      let passes : first_refusal (row_checks q r (length now)) ≡ gives tt =
+      let passes : first_refusal (filed_row_checks q r (length now)) ≡ gives tt =
       passes_on (leb most_rows (rows_in q)) FullTable (place_of q) _ (lt-leb most_rows (rows_in q) (omega (arith, so_far.rows, empty, few)))
       ∙ passes_on (not (is_on_frame (frame_in q).ticks r)) OffFrame (place_of q) _ (not_from_true _ here)
       ∙ passes_on (ltb (length now) (place_of q + 1 + row_size)) ShortBuffer (place_of q) (gives tt) (le-ltb (length now) (place_of q + 1 + row_size) (omega (arith, so_far.place, so_far.size, room))) in
@@ -89,7 +89,7 @@ sheet_told frame accuracy numbers size n given room =
 -- the rows of numbers, filed behind a heading, are a sheet of these numbers
 pub sheet_written : {p q : Phase} {old between new : List ℕ} (h : Heading) (rs : List Row) (numbers : List Numbers) (n : HeadingNumbers) (end_at : ℕ) → Files Opening old (heading h) p between → FilesAll p between (map row rs) q new
     → end_at ≡ place_of q → heading_plain h ≡ n → IsJudged (book h.frame rs) → rs ≡ rows_of numbers → map plain (rows_of numbers) ≡ numbers
-    → (t : OnSheet) × IsTableOf n numbers t × (new ≡ written old 0 (sheet_bytes t)) × Fits (take end_at new) (gives t)
+    → (t : OnSheet) × IsTableOf n numbers t × (new ≡ written old 0 (sheet_bytes t)) × FitsSheet (take end_at new) (gives t)
 sheet_written {q = q} {new = new} h rs numbers n end_at begun all place named judged are plain_are =
     let sheet = sheeted h rs begun all in (
       on_sheet h rs,

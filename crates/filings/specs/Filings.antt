@@ -33,12 +33,12 @@ abbrev pub bounded_findings : Filed → List Found
 bounded_findings f = findings_by (linear_tail f.accuracy) f
 
 -- the numbers of a heading: the frame, the bound by its number, and its accuracy
-abbrev pub heading_of : FrameNumbers → ℕ → ℕ → HeadingNumbers
-heading_of h bound k = record { frame = h; bound = bound; accuracy = k }
+abbrev pub heading_numbers : FrameNumbers → ℕ → ℕ → HeadingNumbers
+heading_numbers h bound k = record { frame = h; bound = bound; accuracy = k }
 
 -- contents are a leaf of a counted table: they have these numbers in the heading, the rows of the table, and findings
 -- that tell these
-pub record IsLeafOf (n : HeadingNumbers) (f : Filed) (found : List Found) (c : Contents) : Type 0 where
+pub record IsLeafOfCount (n : HeadingNumbers) (f : Filed) (found : List Found) (c : Contents) : Type 0 where
   pub lawful : IsLawful c
   pub heading : heading_plain c.heading ≡ n
   pub rows : c.rows ≡ f.rows

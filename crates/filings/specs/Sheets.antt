@@ -8,9 +8,9 @@ use Rattle.rows.specs.Judging.{plain, rows_of}
 use Rattle.leaves.specs.declared.entries.HeadingNumbers.{HeadingNumbers}
 use Rattle.leaves.specs.Entries.{row_place}
 use Rattle.leaves.specs.Headings.{heading_plain}
-use Rattle.sheets.specs.Tables.{OnSheet, IsLawful}
+use Rattle.sheets.specs.Tables.{OnSheet, IsLawfulSheet}
 use Rattle.filings.specs.Checks.{filing_checks}
-use Rattle.filings.specs.Filings.{heading_of}
+use Rattle.filings.specs.Filings.{heading_numbers}
 
 -- how many bytes the sheet of a table of numbers has
 abbrev pub sheet_length : List Numbers → ℕ
@@ -31,12 +31,12 @@ bound_pair None = (0, 0)
 
 -- the numbers of its heading: a frame and such a bound
 abbrev pub heading_for : FrameNumbers → Option ℕ → HeadingNumbers
-heading_for h accuracy = heading_of h (bound_pair accuracy).0 (bound_pair accuracy).1
+heading_for h accuracy = heading_numbers h (bound_pair accuracy).0 (bound_pair accuracy).1
 
 -- a table to be surveyed is that of numbers and the numbers of a heading: it is lawful, and its rows are those of the
 -- numbers
 pub record IsTableOf (n : HeadingNumbers) (ns : List Numbers) (t : OnSheet) : Type 0 where
-  pub lawful : IsLawful t
+  pub lawful : IsLawfulSheet t
   pub heading : heading_plain t.heading ≡ n
   pub rows : t.rows ≡ rows_of ns
   pub numbers : map plain t.rows ≡ ns

@@ -48,7 +48,7 @@ impl Filing {
     ghost use Rattle.leaves.specs.Contents.{Contents};
     ghost use Rattle.bounds.specs.Families.{bound_numbers};
     ghost use Rattle.sheets.specs.Answers.{IsPut};
-    ghost use Rattle.filings.specs.Filings.{filed, findings_by, exact_findings, bounded_findings, heading_of, IsLeafOf};
+    ghost use Rattle.filings.specs.Filings.{filed, findings_by, exact_findings, bounded_findings, heading_numbers, IsLeafOfCount};
 
     // A filing with no row yet.
     pub(crate) fn of(frame: &Frame, tail: LinearTail) -> Filing
@@ -119,7 +119,7 @@ impl Filing {
     /// leaves the buffer as it was.
     pub fn file_exact(&self, buffer: &mut [u8]) -> Result<usize, Fault>
         ensures { (c : Contents)
-            × IsLeafOf (heading_of self.now.frame 0 0) self.now (exact_findings self.now) c
+            × IsLeafOfCount (heading_numbers self.now.frame 0 0) self.now (exact_findings self.now) c
             × IsPut (gives c) buffer.old buffer.new result }
     {
         self.file_list(Supplied::ExactSteps, self.exact(), buffer)
@@ -128,7 +128,7 @@ impl Filing {
     /// Files the leaf of the count by the linear tail, as `file_exact` does.
     pub fn file_bounded(&self, buffer: &mut [u8]) -> Result<usize, Fault>
         ensures { (c : Contents)
-            × IsLeafOf (heading_of self.now.frame 1 self.now.accuracy) self.now
+            × IsLeafOfCount (heading_numbers self.now.frame 1 self.now.accuracy) self.now
             (bounded_findings self.now) c
             × IsPut (gives c) buffer.old buffer.new result }
     {
@@ -144,7 +144,7 @@ impl Filing {
     ) -> Result<usize, Fault>
         requires { map tells findings.now ≡ findings_by (meaning_of bound) self.now }
         ensures { (c : Contents)
-            × IsLeafOf (heading_of self.now.frame (bound_numbers bound).0 (bound_numbers bound).1)
+            × IsLeafOfCount (heading_numbers self.now.frame (bound_numbers bound).0 (bound_numbers bound).1)
             self.now (findings_by (meaning_of bound) self.now) c
             × IsPut (gives c) buffer.old buffer.new result }
     {

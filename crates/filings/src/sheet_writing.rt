@@ -8,7 +8,7 @@ ghost use Rattle.bounds.specs.Families.{bound_numbers};
 ghost use Rattle.reading.specs.Phases.{place_of, rows_in, frame_in};
 ghost use Rattle.writing.specs.Filing.{FilesAll};
 ghost use Rattle.sheets.specs.Tables.{OnSheet, sheet_bytes};
-ghost use Rattle.sheets.specs.Reading.{Fits};
+ghost use Rattle.sheets.specs.Reading.{FitsSheet};
 ghost use Rattle.filings.specs.Checks.{accuracy_checks, frame_for};
 ghost use Rattle.filings.specs.Sheets.{bound_pair, sheet_checks, sheet_length, heading_for, IsTableOf};
 
@@ -36,7 +36,7 @@ pub fn write_sheet(
     ensures written { MatchResult result (λ n. (t : OnSheet)
         × IsTableOf (heading_for (frame_for frame table.now) accuracy) table.now t
         × (buffer.new ≡ written buffer.old 0 (sheet_bytes t))
-        × Fits (take n buffer.new) (gives t))
+        × FitsSheet (take n buffer.new) (gives t))
         (λ _. buffer.new ≡ buffer.old) }
 {
     let frame = judge_frame(frame)?;

@@ -4,7 +4,7 @@ use Rattle.std.proofs.lemmas.Bool.{cases_lt}
 use Rattle.std.proofs.lemmas.List.{take_all, take-take, take-append-le, length-take-le, map-append}
 use Rattle.scripts.specs.Buffers.{room}
 use Rattle.scripts.specs.Lines.{line_of}
-use Rattle.scripts.specs.Progress.{Progress, first_progress, after_bytes, written_for_bytes, written_last, once_ended, written_at_end}
+use Rattle.scripts.specs.PlayState.{PlayState, first_progress, after_bytes, written_for_bytes, written_last, once_ended, written_at_end}
 use Rattle.scripts.specs.Scripts.{line_feed, carriage_return, without_return, begun_after, ended_lines, last_line}
 use Rattle.scripts.specs.Sessions.{Stage, first_stage, stage_behind, written_for, output_from, heard, is_named, reaction_text, next_number}
 use Rattle.scripts.specs.Runs.{script_output, ended_output}
@@ -46,7 +46,7 @@ clipped_more xs b = elim (cases_lt (length xs) 130) [
 ]
 
 -- the progress of a stage and a line that has begun
-abbrev pub at_line : Stage → List ℕ → Progress
+abbrev pub at_line : Stage → List ℕ → PlayState
 at_line s begun = record { stage = s; line = take room begun }
 
 -- the stage behind some lines

@@ -6,25 +6,25 @@ use Rattle.std.specs.declared.io.Error.{Error}
 use Rattle.streams.specs.declared.failures.Failure.{Failure}
 use Rattle.streams.specs.declared.failures.Failure.TheVariants.{Reading, Writing}
 use Rattle.scripts.specs.Blocks.{PlayedOn, FailsBlock, FailsEnd}
-use Rattle.scripts.specs.Progress.{Progress, first_progress, after_byte, written_for_byte, after_bytes, written_for_bytes, written_last}
+use Rattle.scripts.specs.PlayState.{PlayState, first_progress, after_byte, written_for_byte, after_bytes, written_for_bytes, written_last}
 use Rattle.streams.specs.Held.{MayHold}
 use Rattle.scripts.specs.Runs.{script_output, ended_output, Plays, HasPlayed, BeginsToPlay}
 use Rattle.scripts.specs.Written.{Begun}
 use Rattle.scripts.proofs.Agreeing.{first_output, whole_output}
 use Rattle.scripts.proofs.Beginnings.{Begun-all, Begun-longer, Begun-after}
 
-after-append : (p : Progress) (xs ys : List ℕ) → after_bytes p (xs ++ ys) ≡ after_bytes (after_bytes p xs) ys
+after-append : (p : PlayState) (xs ys : List ℕ) → after_bytes p (xs ++ ys) ≡ after_bytes (after_bytes p xs) ys
 after-append p [] ys = refl
 after-append p (x ∷ xs) ys = after-append (after_byte p x) xs ys
 
-written-append : (p : Progress) (xs ys : List ℕ) → written_for_bytes p (xs ++ ys) ≡ written_for_bytes p xs ++ written_for_bytes (after_bytes p xs) ys
+written-append : (p : PlayState) (xs ys : List ℕ) → written_for_bytes p (xs ++ ys) ≡ written_for_bytes p xs ++ written_for_bytes (after_bytes p xs) ys
 written-append p [] ys = refl
 written-append p (x ∷ xs) ys =
     ap (λ t. written_for_byte p x ++ t) (written-append (after_byte p x) xs ys)
     ∙ sym (append_assoc (written_for_byte p x) (written_for_bytes (after_byte p x) xs) (written_for_bytes (after_bytes (after_byte p x) xs) ys))
 
 -- one block more
-pub PlayedOn-more : (p q r : Progress) (a b c u v w : Option (List ℕ)) → PlayedOn p q a b u v → PlayedOn q r b c v w → PlayedOn p r a c u w
+pub PlayedOn-more : (p q r : PlayState) (a b c u v w : Option (List ℕ)) → PlayedOn p q a b u v → PlayedOn q r b c v w → PlayedOn p r a c u w
 PlayedOn-more p q r a b c u v w before now = record {
   bytes = before.bytes ++ now.bytes;
   read = Consumes-trans a b c before.bytes now.bytes before.read now.read;
@@ -57,7 +57,7 @@ all_read None left taken read end = tt
 all_read (Some xs) None taken read end = absurd read
 all_read (Some xs) (Some ys) taken read end = sym (read ∙ ap (λ l. taken ++ l) end ∙ append-nil taken)
 
-module _ (p : Progress) (held left a b : Option (List ℕ)) (so_far : PlayedOn first_progress p held left a b) where
+module _ (p : PlayState) (held left a b : Option (List ℕ)) (so_far : PlayedOn first_progress p held left a b) where
   -- what is written for all that was read, where p has some bytes written behind what is written so far
   all_of : (bytes : List ℕ) → written_for_bytes first_progress so_far.bytes ++ written_for_bytes p bytes
       ≡ written_for_bytes first_progress (so_far.bytes ++ bytes)

@@ -6,6 +6,6 @@ abbrev pub room : ℕ
 room = 130
 
 -- some bytes are counted of as many as there is room for
-pub record Keeps (count : ℕ) (bytes : List ℕ) : Type 0 where
+pub record KeepsWithin (count : ℕ) (bytes : List ℕ) : Type 0 where
   pub places : length bytes ≡ room
   pub within : count ≤ room

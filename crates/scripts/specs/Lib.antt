@@ -7,5 +7,5 @@ pub mod Sessions
 pub mod Written
 pub mod Runs
 pub mod Buffers
-pub mod Progress
+pub mod PlayState
 pub mod Blocks

@@ -14,13 +14,13 @@ pub(crate) struct Buffer {
 
 impl Model for Buffer {
     ghost use Rattle.std.specs.Prelude.{List, ℕ, take};
-    ghost use Rattle.scripts.specs.Buffers.{Keeps};
+    ghost use Rattle.scripts.specs.Buffers.{KeepsWithin};
 
     ghost Value = { List ℕ };
 
     ghost view = { λ b. take b.count b.bytes };
 
-    ghost invariant = { λ b. Keeps b.count b.bytes };
+    ghost invariant = { λ b. KeepsWithin b.count b.bytes };
 }
 
 impl Buffer {

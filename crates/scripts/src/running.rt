@@ -1,7 +1,7 @@
 // What a reader holds, played as a script into a writer.
 ghost use Rattle.std.specs.Prelude.{◌≡◌, false, OnOk, IfOk, IfErr};
 ghost use Rattle.std.specs.Io.KnownBytes.{Appends, IsAtEnd};
-ghost use Rattle.scripts.specs.Progress.{progress_of, written_last};
+ghost use Rattle.scripts.specs.PlayState.{progress_of, written_last};
 ghost use Rattle.scripts.specs.Runs.{Plays, HasPlayed, BeginsToPlay, CallsAreAnswered};
 ghost use Rattle.scripts.specs.Blocks.{PlayedOn, FailsBlock, FailsEnd};
 

@@ -18,7 +18,7 @@ use Rattle.reading.proofs.Once.{again}
 use Rattle.writing.proofs.Leaves.{encoding_length}
 use Rattle.sheets.specs.Answers.{Answers, AnswersOnce, answer_bytes, most_answer, IsPut, IsLeafOf}
 use Rattle.sheets.specs.Surveying.{IsSurveyOf, SurveySays}
-use Rattle.sheets.specs.Tables.{OnSheet, on_sheet, IsLawful, sheet_bytes, sheet_entries}
+use Rattle.sheets.specs.Tables.{OnSheet, on_sheet, IsLawfulSheet, sheet_bytes, sheet_entries}
 use Rattle.sheets.proofs.Leaves.{leaf_of, leaf_lawful}
 use Rattle.sheets.proofs.Once.{fits_once}
 
@@ -42,7 +42,7 @@ answers_once bytes (refuses n at) (gives c) refused (t, fits, survey) = let same
 answers_once bytes (refuses n at) (refuses m to) refused also = again n at m to (fits_once bytes (refuses n at) (refuses m to) refused also)
 
 -- a survey of a lawful table is a lawful leaf
-survey_lawful : (t : OnSheet) (c : Contents) → IsLawful t → IsSurveyOf t c → IsLawfulLeaf c
+survey_lawful : (t : OnSheet) (c : Contents) → IsLawfulSheet t → IsSurveyOf t c → IsLawfulLeaf c
 survey_lawful t c lawful survey =
     let is : leaf_of t c.findings ≡ c = (λ i. record { heading = sym survey.heading i; rows = sym survey.rows i; findings = c.findings }) in
     subst IsLawfulLeaf is (leaf_lawful t c.findings lawful survey.findings)

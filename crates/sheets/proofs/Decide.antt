@@ -21,7 +21,7 @@ use Rattle.reading.specs.declared.phases.Phase.TheVariants.{Opening, Rows}
 use Rattle.reading.specs.Checks.{next_checks, heading_entry_checks, row_entry_checks}
 use Rattle.reading.proofs.Ranks.{rows_length}
 use Rattle.sheets.specs.Answers.{Answers, deciding, FirstDecide}
-use Rattle.sheets.specs.Reading.{row_checks, phase_after, IsRefusedAt, before_heading, in_rows}
+use Rattle.sheets.specs.Reading.{sheet_row_checks, sheet_phase_after, IsSheetRefusedAt, before_heading, in_rows}
 use Rattle.sheets.specs.Tables.{OnSheet, sheet_bytes}
 
 module _ (body more : List ℕ) where
@@ -73,10 +73,10 @@ opening_stays k body more whole = at (eqb k letter_F) refl
     at false other = rw other refl
 
 -- in the rows, what follows the first bytes changes nothing where a row is whole or has no room
-rows_stay : (h : Heading) (n k : ℕ) (body more : List ℕ) → most_rows ≤ n ⊎ row_size ≤ length body → first_refusal (row_checks (Rows h n) (k ∷ (body ++ more))) ≡ first_refusal (row_checks (Rows h n) (k ∷ body))
+rows_stay : (h : Heading) (n k : ℕ) (body more : List ℕ) → most_rows ≤ n ⊎ row_size ≤ length body → first_refusal (sheet_row_checks (Rows h n) (k ∷ (body ++ more))) ≡ first_refusal (sheet_row_checks (Rows h n) (k ∷ body))
 rows_stay h n k body more room = at (eqb k letter_R) refl
   where
-    at : (b : Bool) → eqb k letter_R ≡ b → first_refusal (row_checks (Rows h n) (k ∷ (body ++ more))) ≡ first_refusal (row_checks (Rows h n) (k ∷ body))
+    at : (b : Bool) → eqb k letter_R ≡ b → first_refusal (sheet_row_checks (Rows h n) (k ∷ (body ++ more))) ≡ first_refusal (sheet_row_checks (Rows h n) (k ∷ body))
     at true is =
         let row = eqb-true k letter_R is in
         ⊎_elim (λ (full : most_rows ≤ n). let refused = le-leb most_rows n full in rw (row, refused) refl)
@@ -84,7 +84,7 @@ rows_stay h n k body more room = at (eqb k letter_R) refl
         room
     at false other = other_stays (eqb k letter_A || eqb k letter_Z) refl
       where
-        other_stays : (b : Bool) → (eqb k letter_A || eqb k letter_Z) ≡ b → first_refusal (row_checks (Rows h n) (k ∷ (body ++ more))) ≡ first_refusal (row_checks (Rows h n) (k ∷ body))
+        other_stays : (b : Bool) → (eqb k letter_A || eqb k letter_Z) ≡ b → first_refusal (sheet_row_checks (Rows h n) (k ∷ (body ++ more))) ≡ first_refusal (sheet_row_checks (Rows h n) (k ∷ body))
         other_stays true is = rw is refl
         other_stays false is = rw (is, other) refl
 
@@ -93,7 +93,7 @@ sheet_length : (t : OnSheet) → length (sheet_bytes t) ≡ row_place (length t.
 sheet_length t = omega (arith, length-append (entry_bytes (heading t.heading)) (bytes_of (map row t.rows)), rows_length t.rows)
 
 -- a refusal of so many bytes as decide is that of more bytes
-refusal_stays : (front more : List ℕ) (number : Refusal) (at : ℕ) → length front ≡ deciding → IsRefusedAt front number at → IsRefusedAt (front ++ more) number at
+refusal_stays : (front more : List ℕ) (number : Refusal) (at : ℕ) → length front ≡ deciding → IsSheetRefusedAt front number at → IsSheetRefusedAt (front ++ more) number at
 refusal_stays [] more number at size refused = absurd (omega arith)
 refusal_stays (k ∷ body) more number at size (before_heading refused) = before_heading (opening_stays k body more (omega arith) ∙ refused)
 refusal_stays (k ∷ body) more number at size (in_rows t left lawful split refused) =
@@ -102,7 +102,7 @@ refusal_stays (k ∷ body) more number at size (in_rows t left lawful split refu
     counted : row_place (length t.rows) + length left ≡ deciding
     counted = omega (arith, sheet_length t, ap length split, length-append (sheet_bytes t) left)
 
-    by : (left : List ℕ) → row_place (length t.rows) + length left ≡ deciding → first_refusal (row_checks (phase_after t) left) ≡ refuses number at → first_refusal (row_checks (phase_after t) (left ++ more)) ≡ refuses number at
+    by : (left : List ℕ) → row_place (length t.rows) + length left ≡ deciding → first_refusal (sheet_row_checks (sheet_phase_after t) left) ≡ refuses number at → first_refusal (sheet_row_checks (sheet_phase_after t) (left ++ more)) ≡ refuses number at
     by [] count refused = absurd (omega (arith, lawful.few))
     by (j ∷ rest) count refused =
         rows_stay t.heading (length t.rows) j rest more (⊎_elim (λ (few : length t.rows < most_rows). inr (omega arith)) (λ (full : most_rows ≤ length t.rows). inl full) (cases_lt (length t.rows) most_rows)) ∙ refused

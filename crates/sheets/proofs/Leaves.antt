@@ -18,7 +18,7 @@ use Rattle.writing.proofs.Leaves.{encoding_length, room_is_left}
 use Rattle.writing.proofs.Written.{take_written}
 use Rattle.sheets.specs.Answers.{answer_bytes, buffer_checks}
 use Rattle.sheets.specs.Surveying.{table_findings}
-use Rattle.sheets.specs.Tables.{OnSheet, IsLawful}
+use Rattle.sheets.specs.Tables.{OnSheet, IsLawfulSheet}
 use Rattle.sheets.proofs.Filable.{all_filable}
 
 -- the contents of the leaf of a sheet and its findings
@@ -30,7 +30,7 @@ pub findings_length : (t : OnSheet) → length (table_findings t) ≡ length t.r
 findings_length t = length_findings_below (meaning_of t.heading.bound) t.heading.frame [] t.rows
 
 -- the contents made of a lawful table and its findings are a lawful leaf's
-pub leaf_lawful : (t : OnSheet) (fs : List Finding) → IsLawful t → map tells fs ≡ table_findings t → IsLawfulLeaf (leaf_of t fs)
+pub leaf_lawful : (t : OnSheet) (fs : List Finding) → IsLawfulSheet t → map tells fs ≡ table_findings t → IsLawfulLeaf (leaf_of t fs)
 leaf_lawful t fs lawful found =
     let h = t.heading in
     record {

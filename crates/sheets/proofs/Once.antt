@@ -19,8 +19,8 @@ use Rattle.reading.specs.Grammar.{opens, stands}
 use Rattle.reading.specs.Phases.{place_of}
 use Rattle.reading.proofs.Once.{again}
 use Rattle.reading.proofs.Steps.{opening_sound, step_passes}
-use Rattle.sheets.specs.Reading.{row_checks, phase_after, IsRefusedAt, before_heading, in_rows, Fits, FitsOnce}
-use Rattle.sheets.specs.Tables.{OnSheet, on_sheet, IsLawful, sheet_bytes}
+use Rattle.sheets.specs.Reading.{sheet_row_checks, sheet_phase_after, IsSheetRefusedAt, before_heading, in_rows, FitsSheet, FitsOneSheet}
+use Rattle.sheets.specs.Tables.{OnSheet, on_sheet, IsLawfulSheet, sheet_bytes}
 
 -- no row can come next on a frame, after so many others, from these bytes
 abbrev pub IsStuck : Heading → ℕ → List ℕ → Type 0
@@ -31,9 +31,9 @@ pub ended_stuck : (h : Heading) (n : ℕ) → IsStuck h n []
 ended_stuck h n r more few on same = cc
 
 -- no row comes where a check refuses
-pub refused_stuck : (h : Heading) (n : ℕ) (number : Refusal) (at : ℕ) (left : List ℕ) → first_refusal (row_checks (Rows h n) left) ≡ refuses number at → IsStuck h n left
+pub refused_stuck : (h : Heading) (n : ℕ) (number : Refusal) (at : ℕ) (left : List ℕ) → first_refusal (sheet_row_checks (Rows h n) left) ≡ refuses number at → IsStuck h n left
 refused_stuck h n number at left refused r more few on same =
-    let passes = ap (λ xs. first_refusal (row_checks (Rows h n) xs)) same ∙ step_passes (stands {h = h} {n = n} {r = r} few on) (record { few = omega arith; orderly = omega arith }) (place_of (Rows h n)) more in
+    let passes = ap (λ xs. first_refusal (sheet_row_checks (Rows h n) xs)) same ∙ step_passes (stands {h = h} {n = n} {r = r} few on) (record { few = omega arith; orderly = omega arith }) (place_of (Rows h n)) more in
     let both = sym refused ∙ passes in
     cc
 
@@ -55,7 +55,7 @@ rows_once h n (r ∷ rs) (s ∷ ss) xs ys few room on level stuck held same =
     (ap₂ ◌∷◌ once.0 later.0, later.1)
 
 -- sheets of tables after which no row can come are known by their bytes
-pub tables_once : (t u : OnSheet) (xs ys : List ℕ) → IsLawful t → IsLawful u → IsStuck t.heading (length t.rows) xs → IsStuck u.heading (length u.rows) ys → sheet_bytes t ++ xs ≡ sheet_bytes u ++ ys → (t ≡ u) × (xs ≡ ys)
+pub tables_once : (t u : OnSheet) (xs ys : List ℕ) → IsLawfulSheet t → IsLawfulSheet u → IsStuck t.heading (length t.rows) xs → IsStuck u.heading (length u.rows) ys → sheet_bytes t ++ xs ≡ sheet_bytes u ++ ys → (t ≡ u) × (xs ≡ ys)
 tables_once t u xs ys lawful fair stuck held same =
     let once = heading_once t.heading u.heading (bytes_of (map row t.rows) ++ xs) (bytes_of (map row u.rows) ++ ys)
     (ap (drop 1) (sym (append_assoc (entry_bytes (heading t.heading)) (bytes_of (map row t.rows)) xs) ∙ same ∙ append_assoc (entry_bytes (heading u.heading)) (bytes_of (map row u.rows)) ys)) in
@@ -73,23 +73,23 @@ opened bytes t left number at same refused =
     cc
 
 -- a table and a refusal do not both fit
-not_both : (bytes : List ℕ) (t : OnSheet) (number : Refusal) (at : ℕ) → Fits bytes (gives t) → IsRefusedAt bytes number at → ⊥
+not_both : (bytes : List ℕ) (t : OnSheet) (number : Refusal) (at : ℕ) → FitsSheet bytes (gives t) → IsSheetRefusedAt bytes number at → ⊥
 not_both bytes t number at fits (before_heading refused) = opened bytes t [] number at (fits.1 ∙ sym (append-nil (sheet_bytes t))) refused
 not_both bytes t number at fits (in_rows u left lawful split refused) =
     let both = tables_once t u [] left fits.0 lawful (ended_stuck t.heading (length t.rows)) (refused_stuck u.heading (length u.rows) number at left refused) (append-nil (sheet_bytes t) ∙ sym fits.1 ∙ split) in
-    let none = ap (λ xs. first_refusal (row_checks (phase_after u) xs)) both.1 ∙ refused in
+    let none = ap (λ xs. first_refusal (sheet_row_checks (sheet_phase_after u) xs)) both.1 ∙ refused in
     cc
 
 -- two refusals that fit are one
-one_refusal : (bytes : List ℕ) (n : Refusal) (at : ℕ) (m : Refusal) (to : ℕ) → IsRefusedAt bytes n at → IsRefusedAt bytes m to → ◌≡◌ {A = Answer OnSheet} (refuses n at) (refuses m to)
+one_refusal : (bytes : List ℕ) (n : Refusal) (at : ℕ) (m : Refusal) (to : ℕ) → IsSheetRefusedAt bytes n at → IsSheetRefusedAt bytes m to → ◌≡◌ {A = Answer OnSheet} (refuses n at) (refuses m to)
 one_refusal bytes n at m to (before_heading refused) (before_heading also) = again n at m to (sym refused ∙ also)
 one_refusal bytes n at m to (before_heading refused) (in_rows t left lawful split also) = absurd (opened bytes t left n at split refused)
 one_refusal bytes n at m to (in_rows t left lawful split refused) (before_heading also) = absurd (opened bytes t left m to split also)
 one_refusal bytes n at m to (in_rows t left lawful split refused) (in_rows u rest fair same also) =
     let both = tables_once t u left rest lawful fair (refused_stuck t.heading (length t.rows) n at left refused) (refused_stuck u.heading (length u.rows) m to rest also) (sym split ∙ same) in
-    again n at m to (sym refused ∙ ap₂ (λ v xs. first_refusal (row_checks (phase_after v) xs)) both.0 both.1 ∙ also)
+    again n at m to (sym refused ∙ ap₂ (λ v xs. first_refusal (sheet_row_checks (sheet_phase_after v) xs)) both.0 both.1 ∙ also)
 
-pub fits_once : FitsOnce
+pub fits_once : FitsOneSheet
 fits_once bytes (gives t) (gives u) fits also =
     ap gives (tables_once t u [] [] fits.0 also.0 (ended_stuck t.heading (length t.rows)) (ended_stuck u.heading (length u.rows)) (append-nil (sheet_bytes t) ∙ sym fits.1 ∙ also.1 ∙ sym (append-nil (sheet_bytes u)))).0
 fits_once bytes (gives t) (refuses n at) fits also = absurd (not_both bytes t n at fits also)

@@ -18,14 +18,14 @@ use Rattle.reading.specs.declared.phases.Phase.TheVariants.{Opening, Rows}
 use Rattle.reading.specs.Grammar.{Step, opens, stands}
 use Rattle.reading.specs.Stepping.{Reading, TakesEntry, reading}
 use Rattle.reading.proofs.Runs.{bytes_push}
-use Rattle.sheets.specs.Reading.{row_checks, phase_after, IsRefusedAt, in_rows, Fits}
-use Rattle.sheets.specs.Tables.{OnSheet, on_sheet, IsLawful, sheet_bytes, sheet_entries}
+use Rattle.sheets.specs.Reading.{sheet_row_checks, sheet_phase_after, IsSheetRefusedAt, in_rows, FitsSheet}
+use Rattle.sheets.specs.Tables.{OnSheet, on_sheet, IsLawfulSheet, sheet_bytes, sheet_entries}
 
 -- a reader of the bytes has come here: it stands in the rows, after the sheet of a lawful table
 pub record HasRead (bytes : List ℕ) (t : OnSheet) (here : Reading) : Type 0 where
-  pub phase : here.phase ≡ phase_after t
+  pub phase : here.phase ≡ sheet_phase_after t
   pub split : bytes ≡ sheet_bytes t ++ here.left
-  pub lawful : IsLawful t
+  pub lawful : IsLawfulSheet t
 
 -- where a heading leads
 opens_rows : {h : Heading} {q : Phase} → Step Opening (heading h) q → q ≡ Rows h 0
@@ -70,9 +70,9 @@ module _ (bytes : List ℕ) (t : OnSheet) (here : Reading) (has : HasRead bytes 
         }
 
   -- where a check refuses, the refusal fits
-  pub read_refused : (number : Refusal) (at : ℕ) → refuses number at ≡ first_refusal (row_checks here.phase here.left) → IsRefusedAt bytes number at
-  read_refused number at refused = in_rows t here.left has.lawful has.split (ap (λ p. first_refusal (row_checks p here.left)) (sym has.phase) ∙ sym refused)
+  pub read_refused : (number : Refusal) (at : ℕ) → refuses number at ≡ first_refusal (sheet_row_checks here.phase here.left) → IsSheetRefusedAt bytes number at
+  read_refused number at refused = in_rows t here.left has.lawful has.split (ap (λ p. first_refusal (sheet_row_checks p here.left)) (sym has.phase) ∙ sym refused)
 
   -- where nothing is left, the table that was read fits
-  pub read_all : here.left ≡ [] → Fits bytes (gives t)
+  pub read_all : here.left ≡ [] → FitsSheet bytes (gives t)
   read_all ended = (has.lawful, has.split ∙ ap (λ xs. sheet_bytes t ++ xs) ended ∙ append-nil (sheet_bytes t))

@@ -11,14 +11,14 @@ use Rattle.leaves.specs.Contents.{Contents, encoding}
 use Rattle.leaves.specs.Entries.{row_place, leaf_length}
 use Rattle.reading.specs.Whole.{Fits as IsReadAs}
 use Rattle.sheets.specs.Tables.{OnSheet, on_sheet}
-use Rattle.sheets.specs.Reading.{Fits}
+use Rattle.sheets.specs.Reading.{FitsSheet}
 use Rattle.sheets.specs.Surveying.{IsSurveyOf, SurveySays}
 
 -- contents answer bytes that are the sheet of a table, of which they are the survey; a refusal answers bytes that are
 -- no sheet and are refused so
 abbrev pub Answers : List ℕ → Answer Contents → Type 0
-Answers bytes (gives c) = (t : OnSheet) × Fits bytes (gives t) × IsSurveyOf t c
-Answers bytes (refuses number at) = Fits bytes (refuses number at)
+Answers bytes (gives c) = (t : OnSheet) × FitsSheet bytes (gives t) × IsSurveyOf t c
+Answers bytes (refuses number at) = FitsSheet bytes (refuses number at)
 
 -- at most one answer answers
 abbrev pub AnswersOnce : Type 0

@@ -8,32 +8,32 @@ use Rattle.reading.specs.declared.phases.Phase.{Phase}
 use Rattle.reading.specs.declared.phases.Phase.TheVariants.{Opening, Rows}
 use Rattle.reading.specs.Checks.{next_checks}
 use Rattle.reading.specs.Phases.{place_of}
-use Rattle.sheets.specs.Tables.{OnSheet, IsLawful, sheet_bytes}
+use Rattle.sheets.specs.Tables.{OnSheet, IsLawfulSheet, sheet_bytes}
 
 -- the phase of a reader after the sheet of a table
-abbrev pub phase_after : OnSheet → Phase
-phase_after t = Rows t.heading (length t.rows)
+abbrev pub sheet_phase_after : OnSheet → Phase
+sheet_phase_after t = Rows t.heading (length t.rows)
 
 -- what is checked in the rows of a sheet, of the bytes that are left: nothing where none is, for a sheet may end there;
 -- else out of turn where a finding or an end begins, and then all that is checked there in a leaf
-abbrev pub row_checks : Phase → List ℕ → List Check
-row_checks p [] = []
-row_checks p (k ∷ body) =
+abbrev pub sheet_row_checks : Phase → List ℕ → List Check
+sheet_row_checks p [] = []
+sheet_row_checks p (k ∷ body) =
     check (k == letter_A || k == letter_Z) OutOfTurn (place_of p)
     ∷ next_checks p (place_of p) (k ∷ body)
 
 -- a refusal fits: it is that of the first check that fails, before the heading as in a leaf, or else in the rows,
 -- after the sheet of some lawful table
-pub data IsRefusedAt (bytes : List ℕ) (number : Refusal) (at : ℕ) : Type 0 where
-  before_heading : first_refusal (next_checks Opening 0 bytes) ≡ refuses number at → IsRefusedAt bytes number at
-  in_rows : (t : OnSheet) (left : List ℕ) → IsLawful t → bytes ≡ sheet_bytes t ++ left
-      → first_refusal (row_checks (phase_after t) left) ≡ refuses number at → IsRefusedAt bytes number at
+pub data IsSheetRefusedAt (bytes : List ℕ) (number : Refusal) (at : ℕ) : Type 0 where
+  before_heading : first_refusal (next_checks Opening 0 bytes) ≡ refuses number at → IsSheetRefusedAt bytes number at
+  in_rows : (t : OnSheet) (left : List ℕ) → IsLawfulSheet t → bytes ≡ sheet_bytes t ++ left
+      → first_refusal (sheet_row_checks (sheet_phase_after t) left) ≡ refuses number at → IsSheetRefusedAt bytes number at
 
 -- a table fits: it is lawful, and the bytes are its sheet
-abbrev pub Fits : List ℕ → Answer OnSheet → Type 0
-Fits bytes (gives t) = IsLawful t × (bytes ≡ sheet_bytes t)
-Fits bytes (refuses number at) = IsRefusedAt bytes number at
+abbrev pub FitsSheet : List ℕ → Answer OnSheet → Type 0
+FitsSheet bytes (gives t) = IsLawfulSheet t × (bytes ≡ sheet_bytes t)
+FitsSheet bytes (refuses number at) = IsSheetRefusedAt bytes number at
 
 -- at most one answer fits
-abbrev pub FitsOnce : Type 0
-FitsOnce = (bytes : List ℕ) (a b : Answer OnSheet) → Fits bytes a → Fits bytes b → a ≡ b
+abbrev pub FitsOneSheet : Type 0
+FitsOneSheet = (bytes : List ℕ) (a b : Answer OnSheet) → FitsSheet bytes a → FitsSheet bytes b → a ≡ b

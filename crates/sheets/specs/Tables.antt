@@ -17,8 +17,8 @@ abbrev pub on_sheet : Heading → List Row → OnSheet
 on_sheet h rs = record { heading = h; rows = rs }
 
 -- a sheet can hold it: its frame and its rows are those of a table
-abbrev pub IsLawful : OnSheet → Type 0
-IsLawful t = IsJudged (book t.heading.frame t.rows)
+abbrev pub IsLawfulSheet : OnSheet → Type 0
+IsLawfulSheet t = IsJudged (book t.heading.frame t.rows)
 
 -- the entries of the sheet of a table: the heading and each row
 abbrev pub sheet_entries : OnSheet → List Entry

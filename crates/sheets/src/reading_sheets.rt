@@ -10,7 +10,7 @@ ghost use Rattle.reading.specs.Checks.{next_checks};
 ghost use Rattle.reading.specs.Readers.{reading_of};
 ghost use Rattle.reading.specs.Stepping.{TakesEntry};
 ghost use Rattle.reading.specs.declared.phases.Phase.{Phase};
-ghost use Rattle.sheets.specs.Reading.{row_checks, Fits, FitsOnce};
+ghost use Rattle.sheets.specs.Reading.{sheet_row_checks, FitsSheet, FitsOneSheet};
 
 use crate::sheets::Sheet;
 use leaves::{Entry, Heading};
@@ -20,8 +20,8 @@ use rows::{Fault, Refusal, Row, Table};
 /// The sheet that the bytes are, or the first check that fails, with its place (docs/FORMAT.md,
 /// Sheets, has the order of the checks). Every string of bytes has exactly one answer.
 pub fn read(bytes: &[u8]) -> Result<Sheet, Fault>
-    ensures fits { Fits bytes.now (answer (λ t. t) result) }
-    ensures once { FitsOnce }
+    ensures fits { FitsSheet bytes.now (answer (λ t. t) result) }
+    ensures once { FitsOneSheet }
 {
     let mut reader = Reader::new(bytes);
     let heading = next_heading(&mut reader)?;
@@ -60,7 +60,7 @@ fn next_heading(reader: &mut Reader<'_>) -> Result<Heading, Fault>
 fn next_row(reader: &mut Reader<'_>) -> Result<Option<Row>, Fault>
     requires { (h : Heading) × (n : ℕ) × ((reading_of reader.old).phase ≡ Phase.Rows h n) }
     ensures answered { refusal result
-        ≡ first_refusal (row_checks (reading_of reader.old).phase (reading_of reader.old).left) }
+        ≡ first_refusal (sheet_row_checks (reading_of reader.old).phase (reading_of reader.old).left) }
     ensures taken { IfOk result (λ o. MatchOption o ((reading_of reader.old).left ≡ [])
         (λ r. TakesEntry (reading_of reader.old) (Entry.Row r) (reading_of reader.new))) }
 {

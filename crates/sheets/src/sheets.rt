@@ -33,7 +33,7 @@ impl Sheet {
     ghost use Rattle.rows.specs.Found.{tells};
     ghost use Rattle.findings.specs.Asking.{list_checks};
     ghost use Rattle.sheets.specs.Surveying.{table_findings, SurveySays};
-    ghost use Rattle.sheets.specs.Tables.{IsLawful};
+    ghost use Rattle.sheets.specs.Tables.{IsLawfulSheet};
 
     // The sheet of a table, to be counted by a bound.
     pub(crate) fn of(table: Table, bound: Supplied) -> Sheet
@@ -48,7 +48,7 @@ impl Sheet {
     /// The heading: the frame of the rows, and the bound to count by (docs/FORMAT.md, Sheets).
     pub fn heading(&self) -> Heading
         ensures answered { result ≡ self.now.heading }
-        ensures lawful { IsLawful self.now }
+        ensures lawful { IsLawfulSheet self.now }
     {
         Heading {
             frame: self.table.frame().numbers(),

@@ -11,8 +11,8 @@ use Rattle.numerals.specs.Numerals.{number_of}
 use Rattle.task_tables.specs.declared.columns.Column.{Column}
 use Rattle.task_tables.specs.declared.columns.Column.TheVariants.{Name, Work, Deadline, Period, Jitter}
 use Rattle.task_tables.specs.Columns.{AreDistinct, column_number, has_column, has_numbers, is_column}
-use Rattle.task_tables.specs.Misreads.{Told}
-use Rattle.task_tables.specs.Rows.{Row}
+use Rattle.task_tables.specs.Misreads.{ToldMisread}
+use Rattle.task_tables.specs.Rows.{FieldRow}
 use Rattle.task_tables.specs.Tasks.{all_numbers, field_under, fits, jitter_of, name_of, number_under, numbers_of}
 use Rattle.task_tables.specs.Told.{count_told, fields_told, misfit_told, task_told}
 
@@ -83,7 +83,7 @@ another n c (d ∷ ds) all has =
     ]
 
 -- where what is told is a field, it stands under a column and does not fit there
-pub misfit : (all cs : List Column) (row : Row) (k : ℕ) (fs : List (List ℕ)) (t : Told) → AreDistinct cs → fields_told all row k cs fs ≡ Some t
+pub misfit : (all cs : List Column) (row : FieldRow) (k : ℕ) (fs : List (List ℕ)) (t : ToldMisread) → AreDistinct cs → fields_told all row k cs fs ≡ Some t
     → (c : Column) × (f : List ℕ) × (has_column cs c ≡ true) × (field_under cs fs c ≡ Some f) × (fits c f ≡ false)
 unfolding IsDistinct fields_told
 misfit all [] row k fs t once e = absurd (cc)
@@ -98,7 +98,7 @@ misfit all (d ∷ ds) row k (g ∷ gs) t once e =
     ]
 
 -- where nothing is told of the fields, each fits under its column
-pub fits_under : (all cs : List Column) (row : Row) (k : ℕ) (fs : List (List ℕ)) (c : Column) → length fs ≡ length cs → fields_told all row k cs fs ≡ None → has_column cs c ≡ true
+pub fits_under : (all cs : List Column) (row : FieldRow) (k : ℕ) (fs : List (List ℕ)) (c : Column) → length fs ≡ length cs → fields_told all row k cs fs ≡ None → has_column cs c ≡ true
     → (f : List ℕ) × (field_under cs fs c ≡ Some f) × (fits c f ≡ true)
 unfolding fields_told
 fits_under all [] row k fs c size none has = absurd (cc)
@@ -171,7 +171,7 @@ spoils cs fs Period f size has under bad = inl (rw (size, no_number cs fs Period
 spoils cs fs Jitter f size has under bad = inl (rw (size, has, no_number cs fs Jitter f under bad) (without_jitter _ _ _))
 
 -- where each field fits, there are numbers and a name
-name_there : (all cs : List Column) (row : Row) (fs : List (List ℕ)) → length fs ≡ length cs → fields_told all row 1 cs fs ≡ None → IsUtf8 (name_of cs fs)
+name_there : (all cs : List Column) (row : FieldRow) (fs : List (List ℕ)) → length fs ≡ length cs → fields_told all row 1 cs fs ≡ None → IsUtf8 (name_of cs fs)
 name_there all cs row fs size none =
     elim (cases_Bool (has_column cs Name)) [
       | inl has ↦
@@ -183,7 +183,7 @@ name_there all cs row fs size none =
           subst IsUtf8 (sym empty) IsUtf8-nil
     ]
 
-jitter_there : (all cs : List Column) (row : Row) (fs : List (List ℕ)) → length fs ≡ length cs → fields_told all row 1 cs fs ≡ None → (n : ℕ) × (jitter_of cs fs ≡ Some n)
+jitter_there : (all cs : List Column) (row : FieldRow) (fs : List (List ℕ)) → length fs ≡ length cs → fields_told all row 1 cs fs ≡ None → (n : ℕ) × (jitter_of cs fs ≡ Some n)
 jitter_there all cs row fs size none =
     elim (cases_Bool (has_column cs Jitter)) [
       | inl has ↦
@@ -193,7 +193,7 @@ jitter_there all cs row fs size none =
       | inr lacks ↦ (0, rw lacks refl)
     ]
 
-numbers_there : (all cs : List Column) (row : Row) (fs : List (List ℕ)) → length fs ≡ length cs → (length fs == length cs) ≡ true → fields_told all row 1 cs fs ≡ None → has_numbers cs ≡ true
+numbers_there : (all cs : List Column) (row : FieldRow) (fs : List (List ℕ)) → length fs ≡ length cs → (length fs == length cs) ≡ true → fields_told all row 1 cs fs ≡ None → has_numbers cs ≡ true
     → (n : Numbers) × (numbers_of cs fs ≡ Some n)
 numbers_there all cs row fs size same none has =
     let has_work : has_column cs Work ≡ true = grind arith in
@@ -209,7 +209,7 @@ numbers_there all cs row fs size same none has =
     (record { work = w; deadline = d; period = p; jitter = j }, rw (same, is_w, is_d, is_p, is_j) refl)
 
 -- what is told of a row that a table with room cannot take
-told_of_fields : (cs : List Column) (row : Row) (o : Option Told) → fields_told cs row 1 cs row.fields ≡ o → (length row.fields == length cs) ≡ true → has_numbers cs ≡ true
+told_of_fields : (cs : List Column) (row : FieldRow) (o : Option ToldMisread) → fields_told cs row 1 cs row.fields ≡ o → (length row.fields == length cs) ≡ true → has_numbers cs ≡ true
     → (numbers_of cs row.fields ≡ None) ⊎ (¬ (IsUtf8 (name_of cs row.fields)))
     → o ≡ option_or o (Some (count_told cs row))
 told_of_fields cs row (Some t) is same has cannot = refl
@@ -222,7 +222,7 @@ told_of_fields cs row None is same has cannot =
       | inr bad ↦ absurd (bad (name_there cs cs row row.fields size is))
     ]
 
-pub cannot_told : (cs : List Column) (before : ℕ) (row : Row) → nat_le 32 before ≡ false → has_numbers cs ≡ true
+pub cannot_told : (cs : List Column) (before : ℕ) (row : FieldRow) → nat_le 32 before ≡ false → has_numbers cs ≡ true
     → (numbers_of cs row.fields ≡ None) ⊎ (¬ (IsUtf8 (name_of cs row.fields)))
     → task_told cs before row ≡ option_or (misfit_told cs row) (Some (count_told cs row))
 cannot_told cs before row room has cannot =
@@ -232,7 +232,7 @@ cannot_told cs before row room has cannot =
     ]
 
 -- nothing is told of a row that one takes
-none_of_fields : (cs : List Column) (row : Row) (o : Option Told) (n : Numbers) → fields_told cs row 1 cs row.fields ≡ o → (length row.fields == length cs) ≡ true → AreDistinct cs
+none_of_fields : (cs : List Column) (row : FieldRow) (o : Option ToldMisread) (n : Numbers) → fields_told cs row 1 cs row.fields ≡ o → (length row.fields == length cs) ≡ true → AreDistinct cs
     → numbers_of cs row.fields ≡ Some n → IsUtf8 (name_of cs row.fields) → o ≡ None
 none_of_fields cs row None n is same once some text = refl
 none_of_fields cs row (Some t) n is same once some text =
@@ -242,7 +242,7 @@ none_of_fields cs row (Some t) n is same once some text =
       | inr no_text ↦ absurd (no_text text)
     ]
 
-pub taken_told : (cs : List Column) (before : ℕ) (row : Row) (n : Numbers) → nat_le 32 before ≡ false → numbers_of cs row.fields ≡ Some n → IsUtf8 (name_of cs row.fields) → AreDistinct cs
+pub taken_told : (cs : List Column) (before : ℕ) (row : FieldRow) (n : Numbers) → nat_le 32 before ≡ false → numbers_of cs row.fields ≡ Some n → IsUtf8 (name_of cs row.fields) → AreDistinct cs
     → task_told cs before row ≡ None
 taken_told cs before row n room some text once =
     elim (cases_Bool (length row.fields == length cs)) [
@@ -253,7 +253,7 @@ taken_told cs before row n room some text once =
     ]
 
 -- a row with another number of fields
-pub other_count : (cs : List Column) (row : Row) → (length row.fields ≡ length cs → ⊥) → misfit_told cs row ≡ None
+pub other_count : (cs : List Column) (row : FieldRow) → (length row.fields ≡ length cs → ⊥) → misfit_told cs row ≡ None
 other_count cs row other = rw (false_from_ne_true (length row.fields == length cs) (λ e. other (eq_number (length row.fields) (length cs) e))) refl
 
 -- a table that has not 32 tasks yet

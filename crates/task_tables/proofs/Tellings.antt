@@ -8,26 +8,26 @@ use Rattle.task_tables.specs.declared.errors.ReadError.TheVariants as error
 use Rattle.task_tables.specs.declared.misreads.Expected.TheVariants as expected
 use Rattle.task_tables.specs.declared.misreads.Misread.{Misread}
 use Rattle.task_tables.specs.Columns.{column_named, has_column, has_numbers}
-use Rattle.task_tables.specs.Misreads.{Told, expected_for, of_field, of_line, place_at, told_by}
+use Rattle.task_tables.specs.Misreads.{ToldMisread, expected_for, of_field, of_line, place_at, told_by}
 use Rattle.task_tables.specs.Refusals.{is_misread}
 use Rattle.csv.specs.Reading.{strip_bom}
 use Rattle.streams.specs.Held.{MayHold}
-use Rattle.task_tables.specs.Rows.{Row}
+use Rattle.task_tables.specs.Rows.{FieldRow}
 use Rattle.task_tables.specs.Tables.{AreRows}
 use Rattle.task_tables.specs.Tasks.{fits, refusal_of}
 use Rattle.task_tables.specs.Told.{Tells, TellsOf, TellsOfAll, fields_told, headings_told, no_column, rows_told}
 
 -- an error that is no misread tells nothing of the text
-pub no_misread : (told : Option Told) (e : ReadError) → is_misread e ≡ false → Tells told e
+pub no_misread : (told : Option ToldMisread) (e : ReadError) → is_misread e ≡ false → Tells told e
 no_misread told (error.Misread m) h = absurd (cc)
 no_misread told (error.Input e) h = tt
 no_misread told (error.Memory e) h = tt
 
 -- one that is tells what it is to tell
-pub tells : (told : Option Told) (t : Told) (m : Misread) (e : ReadError) → told ≡ Some t → told_by m ≡ Some t → e ≡ error.Misread m → Tells told e
+pub tells : (told : Option ToldMisread) (t : ToldMisread) (m : Misread) (e : ReadError) → told ≡ Some t → told_by m ≡ Some t → e ≡ error.Misread m → Tells told e
 tells told t m e at by is = rw is (t, at, by)
 
-pub tells_some : (told a : Option Told) (b : Told) (m : Misread) (e : ReadError) → told ≡ option_or a (Some b) → told_by m ≡ option_or a (Some b) → e ≡ error.Misread m → Tells told e
+pub tells_some : (told a : Option ToldMisread) (b : ToldMisread) (m : Misread) (e : ReadError) → told ≡ option_or a (Some b) → told_by m ≡ option_or a (Some b) → e ≡ error.Misread m → Tells told e
 tells_some told None b m e at by is = tells told b m e at by is
 tells_some told (Some t) b m e at by is = tells told t m e at by is
 
@@ -65,7 +65,7 @@ unfolding headings_told
 told_whole line columns has = rw has refl
 
 -- a field that fits under its column, one that does not, and no field more
-pub told_fit : (all : List Column) (row : Row) (cs : List Column) (fs : List (Bor (List ℕ))) (i : ℕ) (c : Column) (f : Bor (List ℕ)) → i < length cs → i < length fs
+pub told_fit : (all : List Column) (row : FieldRow) (cs : List Column) (fs : List (Bor (List ℕ))) (i : ℕ) (c : Column) (f : Bor (List ℕ)) → i < length cs → i < length fs
     → fits (get_or cs i c) (get_or fs i f).now ≡ true
     → fields_told all row (i + 1) (drop i cs) (map (λ f. f.now) (drop i fs)) ≡ fields_told all row (i + 1 + 1) (drop (i + 1) cs) (map (λ f. f.now) (drop (i + 1) fs))
 unfolding fields_told
@@ -74,7 +74,7 @@ told_fit all row cs fs i c f lt lt' good =
     ∙ at_drop_more (λ (rest : List (Bor (List ℕ))). fields_told all row (i + 1) (get_or cs i c ∷ drop (i + 1) cs) (map (λ f. f.now) rest)) fs i f lt'
     ∙ rw good refl
 
-pub told_misfit : (all : List Column) (row : Row) (cs : List Column) (fs : List (Bor (List ℕ))) (i : ℕ) (c : Column) (f : Bor (List ℕ)) → i < length cs → i < length fs
+pub told_misfit : (all : List Column) (row : FieldRow) (cs : List Column) (fs : List (Bor (List ℕ))) (i : ℕ) (c : Column) (f : Bor (List ℕ)) → i < length cs → i < length fs
     → fits (get_or cs i c) (get_or fs i f).now ≡ false
     → fields_told all row (i + 1) (drop i cs) (map (λ f. f.now) (drop i fs))
     ≡ Some (of_field (place_at row.line (i + 1)) (Some (get_or cs i c)) (expected_for expected.Number (get_or fs i f).now) (refusal_of all row.fields (get_or cs i c) (get_or fs i f).now))
@@ -84,12 +84,12 @@ told_misfit all row cs fs i c f lt lt' bad =
     ∙ at_drop_more (λ (rest : List (Bor (List ℕ))). fields_told all row (i + 1) (get_or cs i c ∷ drop (i + 1) cs) (map (λ f. f.now) rest)) fs i f lt'
     ∙ rw bad refl
 
-pub told_fitting : (all : List Column) (row : Row) (k : ℕ) (cs : List Column) (fs : List (List ℕ)) (i : ℕ) → length cs ≤ i → fields_told all row k (drop i cs) fs ≡ None
+pub told_fitting : (all : List Column) (row : FieldRow) (k : ℕ) (cs : List Column) (fs : List (List ℕ)) (i : ℕ) → length cs ≤ i → fields_told all row k (drop i cs) fs ≡ None
 unfolding fields_told
 told_fitting all row k cs fs i le = at_drop_all (λ (rest : List Column). fields_told all row k rest fs) cs i le
 
 -- an error tells what is told of the rows of some bytes, and of all that a reader held
-pub tells_of : (bytes text : List ℕ) (rows : List Row) (e : ReadError) → text ≡ strip_bom bytes → AreRows bytes rows → Tells (rows_told text rows) e → TellsOf bytes e
+pub tells_of : (bytes text : List ℕ) (rows : List FieldRow) (e : ReadError) → text ≡ strip_bom bytes → AreRows bytes rows → Tells (rows_told text rows) e → TellsOf bytes e
 tells_of bytes text rows (error.Misread m) whole own (t, at, by) =
     record { rows = rows; are_rows = own; told = t; first = ap (λ x. rows_told x rows) (sym whole) ∙ at; is_told = by }
 tells_of bytes text rows (error.Input e) whole own h = tt

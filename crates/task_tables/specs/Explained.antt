@@ -47,12 +47,12 @@ pub record IsSpotOf (t : TaskTable) (line : ℕ) (c : Complaint) (s : Spot) : Ty
   pub expected_is : s.expected ≡ c.expected
 
 -- the spot that is told of what a fault says; none, where it says nothing of a task
-abbrev pub IsTold : TaskTable → Option (ℕ × Complaint) → Option Spot → Type 0
-IsTold t None s = s ≡ None
-IsTold t (Some p) None = ⊥
-IsTold t (Some p) (Some s) = IsSpotOf t p.0 p.1 s
+abbrev pub IsSpotTold : TaskTable → Option (ℕ × Complaint) → Option Spot → Type 0
+IsSpotTold t None s = s ≡ None
+IsSpotTold t (Some p) None = ⊥
+IsSpotTold t (Some p) (Some s) = IsSpotOf t p.0 p.1 s
 
 -- a fault is told: where the number stands that it is about, and its refusal, with the rank where there is such a number
 pub record IsExplained (t : TaskTable) (fault : Fault) (m : Misread) : Type 0 where
-  pub spot : IsTold t (told_of t fault) m.spot
+  pub spot : IsSpotTold t (told_of t fault) m.spot
   pub refused : m.refused ≡ Some (record { refusal = fault.refusal; rank = option_map (λ _. fault.at) (told_of t fault) })

@@ -4,8 +4,8 @@ use Rattle.std.specs.List.{list_any, slice_split}
 use Rattle.std.specs.Option.{option_map_or}
 use Rattle.csv.specs.Reading.{default_config, strip_bom}
 use Rattle.csv.specs.declared.parser.Config.{Config}
-use Rattle.task_tables.specs.declared.forms.Form.{Form}
-use Rattle.task_tables.specs.declared.forms.Form.TheVariants.{Commas, Tabs, Blanks}
+use Rattle.task_tables.specs.declared.forms.FieldsForm.{FieldsForm}
+use Rattle.task_tables.specs.declared.forms.FieldsForm.TheVariants.{Commas, Tabs, Blanks}
 use Rattle.numerals.specs.Numerals.{is_blank}
 use Rattle.task_tables.specs.Fields.{trimmed}
 
@@ -26,21 +26,21 @@ abbrev pub decides : List ℕ → Bool
 decides line = not (is_comment line) && has_text line
 
 -- the form that a line decides: a comma in it, else a tab in it, else blanks
-abbrev pub form_of_line : List ℕ → Form
+abbrev pub form_of_line : List ℕ → FieldsForm
 form_of_line line = if list_any (λ b. b == 44) line then Commas else (if list_any (λ b. b == 9) line then Tabs else Blanks)
 
 -- the form of a text, which the first line that can decides
-unfoldable pub form_of : List ℕ → Form
+unfoldable pub form_of : List ℕ → FieldsForm
 form_of text = option_map_or form_of_line (find decides (slice_split is_line_end (strip_bom text))) Blanks
 
 -- the byte that parts the fields
-abbrev pub delimiter : Form → ℕ
+abbrev pub delimiter : FieldsForm → ℕ
 delimiter Commas = 44
 delimiter Tabs = 9
 delimiter Blanks = 32
 
 -- how the records of a text of a form are read: no header row, and a number sign begins a comment
-abbrev pub config_of : Form → Config
+abbrev pub config_of : FieldsForm → Config
 config_of form = record default_config { delimiter = delimiter form; comment = Some 35 }
 
 -- a field is not empty
@@ -48,13 +48,13 @@ abbrev pub is_filled : List ℕ → Bool
 is_filled field = not (length field == 0)
 
 -- a field counts: where blanks part the fields, one that is not empty
-abbrev pub counts : Form → List ℕ → Bool
+abbrev pub counts : FieldsForm → List ℕ → Bool
 counts Commas field = true
 counts Tabs field = true
 counts Blanks field = is_filled field
 
 -- the fields of a record that count, without blanks around them
-abbrev pub fields_in : Form → List (List ℕ) → List (List ℕ)
+abbrev pub fields_in : FieldsForm → List (List ℕ) → List (List ℕ)
 fields_in form fields = filter (counts form) (map trimmed fields)
 
 -- a record says something: a field of it is not empty

@@ -10,7 +10,7 @@ use Rattle.task_tables.specs.declared.misreads.Place.{Place}
 
 -- what is told where a text cannot be taken: the line, the field on it and its column where a field is concerned, what was
 -- expected there, and the refusal whose condition holds
-pub record Told : Type 0 where
+pub record ToldMisread : Type 0 where
   pub line : ℕ
   pub field : Option ℕ
   pub column : Option Column
@@ -18,11 +18,11 @@ pub record Told : Type 0 where
   pub refusal : Option Refusal
 
 -- what is told of a whole line
-abbrev pub of_line : ℕ → Expected → Option Refusal → Told
+abbrev pub of_line : ℕ → Expected → Option Refusal → ToldMisread
 of_line line expected refusal = record { line = line; field = None; column = None; expected = expected; refusal = refusal }
 
 -- what is told of a field
-abbrev pub of_field : Place → Option Column → Expected → Option Refusal → Told
+abbrev pub of_field : Place → Option Column → Expected → Option Refusal → ToldMisread
 of_field place column expected refusal =
     record { line = place.line; field = Some place.field; column = column; expected = expected; refusal = refusal }
 
@@ -39,6 +39,6 @@ abbrev pub refusal_told : Misread → Option Refusal
 refusal_told m = option_map (λ r. r.refusal) m.refused
 
 -- what a misread tells, where it tells of a place
-abbrev pub told_by : Misread → Option Told
+abbrev pub told_by : Misread → Option ToldMisread
 told_by m =
     option_map (λ s. record { line = s.line; field = s.field; column = s.column; expected = s.expected; refusal = refusal_told m }) m.spot

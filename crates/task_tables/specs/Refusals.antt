@@ -6,7 +6,7 @@ use Rattle.task_tables.specs.declared.errors.ReadError.{ReadError}
 use Rattle.task_tables.specs.declared.errors.ReadError.TheVariants.{Input, Memory, Misread}
 use Rattle.task_tables.specs.declared.tables.TaskTable.{TaskTable}
 use Rattle.task_tables.specs.Columns.{IsHeading}
-use Rattle.task_tables.specs.Rows.{Row}
+use Rattle.task_tables.specs.Rows.{FieldRow}
 use Rattle.streams.specs.Held.{MayHold}
 use Rattle.task_tables.specs.Tables.{IsReadFrom, IsTable, table_columns, table_numbers}
 use Rattle.task_tables.specs.Tasks.{name_of, numbers_of}
@@ -28,7 +28,7 @@ CannotTake t fields =
     ⊎ ((numbers_of (table_columns t) fields ≡ None) ⊎ (¬ (IsUtf8 (name_of (table_columns t) fields))))
 
 -- some rows are no table, whichever it may be
-abbrev pub AreNoTable : List Row → Type 0
+abbrev pub AreNoTable : List FieldRow → Type 0
 AreNoTable rows = (t : TaskTable) → ¬ (IsTable rows t)
 
 -- no table can be read from some bytes

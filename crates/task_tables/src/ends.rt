@@ -5,7 +5,7 @@ ghost use Rattle.task_tables.specs.Ends.{state_of};
 ghost use Rattle.task_tables.specs.Forms.{config_of};
 ghost use Rattle.task_tables.specs.Lines.{behind_one};
 
-use crate::forms::{Form, ends_line};
+use crate::forms::{FieldsForm, ends_line};
 
 // Where a byte of a text stands.
 #[derive(Clone, Copy)]
@@ -26,7 +26,7 @@ enum Stand {
 
 impl Stand {
     // Where the next byte stands behind this one, which ends no record; nothing, where it ends one.
-    fn next(self, form: Form, byte: u8) -> Option<Stand>
+    fn next(self, form: FieldsForm, byte: u8) -> Option<Stand>
         ensures { MatchOption result
             (is_end (step (config_of form) (state_of self) byte).1 ≡ true)
             (λ next. (is_end (step (config_of form) (state_of self) byte).1 ≡ false)
@@ -46,7 +46,7 @@ impl Stand {
 }
 
 // Where the next byte stands behind one outside quotes, which ends no record; nothing, where it ends one.
-fn in_field(form: Form, byte: u8) -> Option<Stand>
+fn in_field(form: FieldsForm, byte: u8) -> Option<Stand>
     ensures { MatchOption result
         (is_end (in_field (config_of form) byte).1 ≡ true)
         (λ next. (is_end (in_field (config_of form) byte).1 ≡ false)
@@ -62,7 +62,7 @@ fn in_field(form: Form, byte: u8) -> Option<Stand>
 }
 
 // What is left of a text behind its next record.
-pub(crate) fn behind_one(form: Form, text: &[u8]) -> &[u8]
+pub(crate) fn behind_one(form: FieldsForm, text: &[u8]) -> &[u8]
     ensures left { result.now ≡ behind_one (config_of form) text.now }
     ensures shorter { length result.now ≤ length text.now }
 {

@@ -12,7 +12,7 @@ use std::alloc::{AllocError, Global};
 
 // What parts the fields of a line.
 #[derive(Clone, Copy)]
-pub(crate) enum Form {
+pub(crate) enum FieldsForm {
     Commas,
     Tabs,
     Blanks,
@@ -66,28 +66,28 @@ fn deciding_line(text: &[u8]) -> Option<&[u8]>
         .find(|line| decides(line))
 }
 
-impl Form {
+impl FieldsForm {
     // The form of a text, which its first line with fields decides.
     #[tactic(auto, unfolding(crate::specs::Forms::form_of))]
-    pub(crate) fn of(text: &[u8]) -> Form
+    pub(crate) fn of(text: &[u8]) -> FieldsForm
         ensures { result ≡ form_of text.now }
     {
         match deciding_line(without_mark(text)) {
-            Some(line) => Form::of_line(line),
-            None => Form::Blanks,
+            Some(line) => FieldsForm::of_line(line),
+            None => FieldsForm::Blanks,
         }
     }
 
     // The form that a line decides.
-    fn of_line(line: &[u8]) -> Form
+    fn of_line(line: &[u8]) -> FieldsForm
         ensures { result ≡ form_of_line line.now }
     {
         if line.contains(&b',') {
-            Form::Commas
+            FieldsForm::Commas
         } else if line.contains(&b'\t') {
-            Form::Tabs
+            FieldsForm::Tabs
         } else {
-            Form::Blanks
+            FieldsForm::Blanks
         }
     }
 
@@ -96,9 +96,9 @@ impl Form {
         ensures { result ≡ delimiter self }
     {
         match self {
-            Form::Commas => b',',
-            Form::Tabs => b'\t',
-            Form::Blanks => b' ',
+            FieldsForm::Commas => b',',
+            FieldsForm::Tabs => b'\t',
+            FieldsForm::Blanks => b' ',
         }
     }
 
@@ -107,8 +107,8 @@ impl Form {
         ensures { result ≡ counts self field.now }
     {
         match self {
-            Form::Commas | Form::Tabs => true,
-            Form::Blanks => !field.is_empty(),
+            FieldsForm::Commas | FieldsForm::Tabs => true,
+            FieldsForm::Blanks => !field.is_empty(),
         }
     }
 

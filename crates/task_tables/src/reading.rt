@@ -7,14 +7,14 @@ ghost use Rattle.task_tables.specs.Forms.{is_filled};
 ghost use Rattle.task_tables.specs.Refusals.{AreNoTable, IsNoTable, ReadsNone, is_misread};
 ghost use Rattle.task_tables.specs.Lines.{line_behind};
 ghost use Rattle.task_tables.specs.Misreads.{of_line, told_by};
-ghost use Rattle.task_tables.specs.Rows.{Row, row_at, rows_in};
+ghost use Rattle.task_tables.specs.Rows.{FieldRow, row_at, rows_in};
 ghost use Rattle.task_tables.specs.Tables.{AreRead, IsReadFrom, IsTable, ReadsAll};
 ghost use Rattle.task_tables.specs.Told.{AreTaken, Tells, TellsOf, TellsOfAll, rows_told};
 ghost use Rattle.task_tables.specs.Tasks.{DecimalsRead};
 
 use crate::ends::behind_one;
 use crate::errors::ReadError;
-use crate::forms::{Form, without_mark};
+use crate::forms::{FieldsForm, without_mark};
 use crate::headings::read_columns;
 use crate::lines::{line_behind, line_of};
 use crate::misreads::{Expected, Misread};
@@ -50,7 +50,7 @@ fn read_text(alloc: Global, text: &[u8]) -> Result<TaskTable, ReadError>
     ensures refused { IfErr result (λ e. is_misread e ≡ true → IsNoTable text.now) }
     ensures told { IfErr result (TellsOf text.now) }
 {
-    let form = Form::of(text);
+    let form = FieldsForm::of(text);
     let records = read_records(alloc, form, text)?;
     let text = without_mark(text);
     match read_table(alloc, form, text, records.as_slice())? {
@@ -64,7 +64,7 @@ fn read_text(alloc: Global, text: &[u8]) -> Result<TaskTable, ReadError>
 #[tactic(auto, using(crate::proofs::Tellings::no_misread))]
 fn read_table(
     alloc: Global,
-    form: Form,
+    form: FieldsForm,
     text: &[u8],
     records: &[ByteRecord],
 ) -> Result<Option<TaskTable>, ReadError>
@@ -109,14 +109,14 @@ fn read_row(
     fields: &[&[u8]],
     table: Option<TaskTable>,
 ) -> Result<TaskTable, ReadError>
-    ensures read { IfOk result (λ after. (rows : List Row) → AreRead rows table
+    ensures read { IfOk result (λ after. (rows : List FieldRow) → AreRead rows table
         → IsTable (rows ++ row_at line fields.now ∷ []) after) }
-    ensures taken { IfOk result (λ after. (rows : List Row) → AreTaken rows table
+    ensures taken { IfOk result (λ after. (rows : List FieldRow) → AreTaken rows table
         → AreTaken (rows ++ row_at line fields.now ∷ []) (Some after)) }
     ensures refused { IfErr result (λ e.
-        is_misread e ≡ true → (rows rest : List Row) → AreRead rows table
+        is_misread e ≡ true → (rows rest : List FieldRow) → AreRead rows table
         → AreNoTable (rows ++ row_at line fields.now ∷ rest)) }
-    ensures told { IfErr result (λ e. (text : List ℕ) (rows rest : List Row) → AreTaken rows table
+    ensures told { IfErr result (λ e. (text : List ℕ) (rows rest : List FieldRow) → AreTaken rows table
         → Tells (rows_told text (rows ++ row_at line fields.now ∷ rest)) e) }
 {
     match table {

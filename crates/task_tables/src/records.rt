@@ -7,7 +7,7 @@ ghost use Rattle.task_tables.specs.Forms.{config_of};
 ghost use Rattle.task_tables.specs.Refusals.{is_misread};
 
 use crate::errors::ReadError;
-use crate::forms::Form;
+use crate::forms::FieldsForm;
 use csv::{ByteRecord, ReaderBuilder};
 use std::alloc::Global;
 
@@ -17,7 +17,7 @@ const COMMENT: u8 = b'#';
 // The records of a text of some form.
 pub(crate) fn read_records(
     alloc: Global,
-    form: Form,
+    form: FieldsForm,
     text: &[u8],
 ) -> Result<Vec<ByteRecord>, ReadError>
     ensures records { IfOk result (λ rows.

@@ -25,7 +25,7 @@ impl TaskTable {
     ghost use Rattle.task_tables.specs.Refusals.{CannotTake, is_misread};
     ghost use Rattle.task_tables.specs.Rows.{row_at};
     ghost use Rattle.task_tables.specs.Told.{Tells, task_told};
-    ghost use Rattle.task_tables.specs.Tables.{field_of, table_columns, table_lines, table_names, table_numbers, Takes};
+    ghost use Rattle.task_tables.specs.Tables.{field_of, table_columns, table_lines, table_names, table_numbers, TakesTask};
 
     // A table without tasks, under a heading.
     pub(crate) fn new(alloc: Global, columns: Vec<Column>) -> TaskTable
@@ -84,7 +84,7 @@ impl TaskTable {
         line: u64,
         fields: &[&[u8]],
     ) -> Result<(), ReadError>
-        ensures task { OnOk result (Takes self.old self.new (row_at line fields.now)) }
+        ensures task { OnOk result (TakesTask self.old self.new (row_at line fields.now)) }
         ensures none { OnOk result (AreDistinct (table_columns self.old)
             → task_told (table_columns self.old) (length (table_numbers self.old)) (row_at line fields.now) ≡ None) }
         ensures refused { IfErr result (λ e.

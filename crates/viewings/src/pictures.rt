@@ -1,13 +1,13 @@
 // What a picture tells in its description.
 ghost use Rattle.std.specs.Prelude.{◌≡◌, IfOk, IfSome, ◌++◌};
-ghost use Rattle.viewings.specs.Pictures.{IsTold};
+ghost use Rattle.viewings.specs.Pictures.{TellsNumbers};
 
 use anyhow::Context;
 use std::str;
 
 /// The description of an SVG picture.
 pub(crate) fn told(picture: &[u8]) -> anyhow::Result<&str>
-    ensures { IfOk result (λ told. IsTold picture.now told.now) }
+    ensures { IfOk result (λ told. TellsNumbers picture.now told.now) }
 {
     let text = str::from_utf8(picture)?;
     let (_, described) = around(text, "<desc>").context("no description")?;

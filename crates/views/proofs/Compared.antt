@@ -9,11 +9,11 @@ use Rattle.streams.specs.Held.{MayHold}
 use Rattle.views.specs.declared.damage.Damage.{Damage}
 use Rattle.views.specs.declared.troubles.Trouble.{Trouble}
 use Rattle.views.specs.declared.troubles.Trouble.TheVariants as trouble
-use Rattle.views.specs.Leaves.{HeldBoth, HeldLeaf, name_of}
+use Rattle.views.specs.Leaves.{HeldBoth, HeldLeaf, name_among}
 use Rattle.views.specs.Troubles.{IsDamaged, IsTroubleOf, TellsDamage, TellsDifference, of_leaf, of_leaves}
 
 -- a name at a place is what stands there
-pub name_at : (names : List (Bor (List ℕ))) (i : ℕ) (d : Bor (List ℕ)) → d.now ≡ [] → (slice_index_or names i d).now ≡ name_of names i
+pub name_at : (names : List (Bor (List ℕ))) (i : ℕ) (d : Bor (List ℕ)) → d.now ≡ [] → (slice_index_or names i d).now ≡ name_among names i
 name_at [] i d none = none
 name_at (name ∷ names) zero d none = refl
 name_at (name ∷ names) (suc i) d none = name_at names i d none

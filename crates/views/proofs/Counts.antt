@@ -16,7 +16,7 @@ use Rattle.grids.specs.Cells.{Rows}
 use Rattle.grids.specs.declared.cells.Cell.{Cell}
 use Rattle.views.specs.declared.counted.Counted.{Counted}
 use Rattle.views.specs.Cells.{counted_texts}
-use Rattle.views.specs.Printed.{first_told, told_at, told_of}
+use Rattle.views.specs.Printed.{first_told, counts_told_at, counts_told}
 use Rattle.views.specs.Ranked.{shown_rows}
 
 -- of a table that was counted there are as many findings as rows
@@ -36,14 +36,14 @@ take_one (x ∷ xs) zero d within = refl
 take_one (x ∷ xs) (suc i) d within = ap (λ ys. x ∷ ys) (take_one xs i d (omega (arith, within)))
 
 -- what is told of a row and of what both counts found is told of its place
-pub told_is : (i : ℕ) (c : Counted) (name : List ℕ) (n : Numbers) (exact bounded : Found) → name ≡ slice_index_or (table_names c.table) i [] → slice_get (map plain c.filing.rows) i ≡ Some n → slice_get (exact_findings c.filing) i ≡ Some exact → slice_get (bounded_findings c.filing) i ≡ Some bounded → counted_texts (i + 1) name n exact bounded ≡ told_at i c
+pub told_is : (i : ℕ) (c : Counted) (name : List ℕ) (n : Numbers) (exact bounded : Found) → name ≡ slice_index_or (table_names c.table) i [] → slice_get (map plain c.filing.rows) i ≡ Some n → slice_get (exact_findings c.filing) i ≡ Some exact → slice_get (bounded_findings c.filing) i ≡ Some bounded → counted_texts (i + 1) name n exact bounded ≡ counts_told_at i c
 told_is i c name n exact bounded named row one other =
-    ap (λ x. told_of (i + 1) x (Some n) (Some exact) (Some bounded)) named
-    ∙ sym (ap (λ o. told_of (i + 1) (slice_index_or (table_names c.table) i []) o (slice_get (exact_findings c.filing) i) (slice_get (bounded_findings c.filing) i)) row
-    ∙ ap₂ (λ o p. told_of (i + 1) (slice_index_or (table_names c.table) i []) (Some n) o p) one other)
+    ap (λ x. counts_told (i + 1) x (Some n) (Some exact) (Some bounded)) named
+    ∙ sym (ap (λ o. counts_told (i + 1) (slice_index_or (table_names c.table) i []) o (slice_get (exact_findings c.filing) i) (slice_get (bounded_findings c.filing) i)) row
+    ∙ ap₂ (λ o p. counts_told (i + 1) (slice_index_or (table_names c.table) i []) (Some n) o p) one other)
 
 -- one row more is told behind those before
-pub told_next : (i : ℕ) (c : Counted) (rows new : Rows) (cells : Vec Cell Global) → shown_rows rows ≡ first_told i c → map shown_of cells.items ≡ told_at i c → new ≡ rows ++ cells ∷ [] → shown_rows new ≡ first_told (i + 1) c
+pub told_next : (i : ℕ) (c : Counted) (rows new : Rows) (cells : Vec Cell Global) → shown_rows rows ≡ first_told i c → map shown_of cells.items ≡ counts_told_at i c → new ≡ rows ++ cells ∷ [] → shown_rows new ≡ first_told (i + 1) c
 told_next i c rows new cells before told grown =
     let up : i + 1 ≡ suc i = omega arith in
     ap shown_rows grown

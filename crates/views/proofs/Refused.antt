@@ -18,7 +18,7 @@ use Rattle.task_tables.specs.Tables.{ReadsAll, table_numbers}
 use Rattle.views.specs.declared.troubles.Trouble.{Trouble}
 use Rattle.views.specs.declared.troubles.Trouble.TheVariants as trouble
 use Rattle.views.specs.Counted.{IsCountOf, TellsRank}
-use Rattle.views.specs.Troubles.{IsTroubleOf, Tells, TellsFirst, is_output, of_row, of_table}
+use Rattle.views.specs.Troubles.{IsTroubleOf, TroubleTells, TellsFirst, is_output, of_row, of_table}
 
 -- the first refusal of a table that was read is a trouble of it
 pub table_refused : (held : Option (List ℕ)) (h : Option FrameNumbers) (k : Option ℕ) (table : TaskTable) (t : Trouble) → ReadsAll held table → TellsFirst h k table t → IsTroubleOf (of_table held h k) t
@@ -49,7 +49,7 @@ row_refused rank held h k (trouble.Output e) is = is
 row_refused rank held h k (trouble.Memory e) is = is
 
 -- what is told of a refusal is no failure of the output
-pub told_no_output : (h : Option FrameNumbers) (r : Refusal) (t : Trouble) → Tells h r t → is_output t ≡ false
+pub told_no_output : (h : Option FrameNumbers) (r : Refusal) (t : Trouble) → TroubleTells h r t → is_output t ≡ false
 told_no_output h r (trouble.Table e) told = refl
 told_no_output h r (trouble.Row m) told = refl
 told_no_output h r trouble.Frame told = refl

@@ -24,8 +24,8 @@ abbrev pub layout_of : Show → Layout
 layout_of s = s.layout
 
 -- the text that is shown to people
-abbrev pub shown_text : Show → List ℕ
-shown_text s = s.text.items
+abbrev pub text_added : Show → List ℕ
+text_added s = s.text.items
 
 -- the records that are shown, as programs read them
 abbrev pub shown_records : Show → List (List (List ℕ))
@@ -52,13 +52,13 @@ pub record KeepsSetup (old new : Show) : Type 0 where
 pub record GrowsText (IsText : List ℕ → Type 0) (old new : Show) : Type 0 where
   pub bytes : List ℕ
   pub is_text : IsText bytes
-  pub text : shown_text new ≡ parted (shown_text old) ++ bytes
+  pub text : text_added new ≡ parted (text_added old) ++ bytes
   pub records : shown_records new ≡ shown_records old
 
 -- the records for programs grow by more, and the text stays
 pub record GrowsRecords (more : List (List (List ℕ))) (old new : Show) : Type 0 where
   pub records : shown_records new ≡ shown_records old ++ more
-  pub text : shown_text new ≡ shown_text old
+  pub text : text_added new ≡ text_added old
 
 -- what is shown grows in the layout that it has
 abbrev pub GrowBy : Layout → (List ℕ → Type 0) → List (List (List ℕ)) → Show → Show → Type 0
@@ -91,6 +91,6 @@ IsCsvOf headings rows text = AreRecords default_config st.StartRecord text (map 
 
 -- bytes are what is shown: in the layout for people the text, as CSV and as JSON the records
 abbrev pub IsShown : Layout → Show → List ℕ → Type 0
-IsShown Aligned show bytes = bytes ≡ shown_text show
+IsShown Aligned show bytes = bytes ≡ text_added show
 IsShown Csv show bytes = IsCsvOf show.records.headings.items show.records.rows.items bytes
 IsShown Json show bytes = IsTextOf bytes show.records.headings.items show.records.rows.items

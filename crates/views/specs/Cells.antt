@@ -55,8 +55,8 @@ counted_texts rank name n exact bounded =
 
 -- what a program is told of a heading: the name of the leaf, no refusal, what bounds of its kind are called, the accuracy
 -- where there is one bound of the kind for each, and the frame
-abbrev pub heading_fields : List ℕ → Heading → List (List ℕ)
-heading_fields name h =
+abbrev pub heading_record_fields : List ℕ → Heading → List (List ℕ)
+heading_record_fields name h =
     name ∷ [] ∷ [] ∷ [] ∷ []
     ∷ family_name (supplied_plain h.bound).0
     ∷ (if has_accuracies (supplied_plain h.bound).0 then decimal (supplied_plain h.bound).1 else [])
@@ -64,8 +64,8 @@ heading_fields name h =
 
 -- what a program is told of a row below its heading: its rank and numbers, whether it meets, the first rest, the
 -- response and the points tested
-abbrev pub row_fields : ℕ → Numbers → Found → List (List ℕ)
-row_fields rank n f =
+abbrev pub row_record_fields : ℕ → Numbers → Found → List (List ℕ)
+row_record_fields rank n f =
     decimal rank ∷ (four_fields n
     ++ (if is_some f.rest then codes "true" else codes "false")
     ∷ number_field f.rest ∷ number_field (response_of n f) ∷ decimal f.points ∷ [])
@@ -78,7 +78,7 @@ row_cells rank n f =
 
 -- the record of a row: what is told of the heading, and then of the row
 abbrev pub record_fields : List ℕ → Heading → ℕ → Numbers → Found → List (List ℕ)
-record_fields name h rank n f = heading_fields name h ++ row_fields rank n f
+record_fields name h rank n f = heading_record_fields name h ++ row_record_fields rank n f
 
 -- the record of a damaged leaf: its name, the refusal by number and words, its place, and the bytes around the place
 abbrev pub damage_fields : List ℕ → ℕ → List ℕ → ℕ → List ℕ → List (List ℕ)

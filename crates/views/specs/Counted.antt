@@ -8,7 +8,7 @@ use Rattle.bounds.specs.Supplied.{exact_steps, linear_tail}
 use Rattle.findings.specs.Demand.{load}
 use Rattle.leaves.specs.Contents.{Contents, encoding}
 use Rattle.filings.specs.Checks.{filing_checks, frame_for}
-use Rattle.filings.specs.Filings.{Filed, filed, heading_of, exact_findings, bounded_findings, IsLeafOf}
+use Rattle.filings.specs.Filings.{Filed, filed, heading_numbers, exact_findings, bounded_findings, IsLeafOfCount}
 use Rattle.task_tables.specs.declared.tables.TaskTable.{TaskTable}
 use Rattle.task_tables.specs.Tables.{ReadsAll, table_names, table_numbers}
 use Rattle.plots.specs.declared.questions.Drawing.{Drawing}
@@ -35,13 +35,13 @@ pub record IsCountOf (frame : Option FrameNumbers) (accuracy : ℕ) (table : Tas
 -- some bytes are the leaf of the survey in exact steps
 pub record IsExactLeaf (f : Filed) (bytes : List ℕ) : Type 0 where
   pub contents : Contents
-  pub survey : IsLeafOf (heading_of f.frame 0 0) f (exact_findings f) contents
+  pub survey : IsLeafOfCount (heading_numbers f.frame 0 0) f (exact_findings f) contents
   pub encoded : bytes ≡ encoding contents
 
 -- some bytes are the leaf of the survey by the linear tail
 pub record IsLinearLeaf (f : Filed) (bytes : List ℕ) : Type 0 where
   pub contents : Contents
-  pub survey : IsLeafOf (heading_of f.frame 1 f.accuracy) f (bounded_findings f) contents
+  pub survey : IsLeafOfCount (heading_numbers f.frame 1 f.accuracy) f (bounded_findings f) contents
   pub encoded : bytes ≡ encoding contents
 
 -- a table has a row of a rank

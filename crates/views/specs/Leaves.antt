@@ -22,8 +22,8 @@ pub record HeldLeaf (held : Option (List ℕ)) (is_leaf : Bool) : Type 0 where
   pub leaf : IsLeaf is_leaf bytes
 
 -- the name at a place among some
-abbrev pub name_of : List (Bor (List ℕ)) → ℕ → List ℕ
-name_of names i = slice_index_or (map (λ name. name.now) names) i []
+abbrev pub name_among : List (Bor (List ℕ)) → ℕ → List ℕ
+name_among names i = slice_index_or (map (λ name. name.now) names) i []
 
 -- contents have one table: one frame, and the same rows in the same order
 pub record HaveOneTable (c d : Contents) : Type 0 where

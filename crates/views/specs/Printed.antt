@@ -13,22 +13,22 @@ use Rattle.views.specs.Cells.{counted_texts}
 use Rattle.views.specs.Ranked.{shown_rows}
 
 -- what is told of a row, where there is one and both counts found something
-abbrev pub told_of : ℕ → List ℕ → Option Numbers → Option Found → Option Found → List (List ℕ)
-told_of rank name (Some n) (Some exact) (Some bounded) = counted_texts rank name n exact bounded
-told_of rank name None exact bounded = []
-told_of rank name (Some n) None bounded = []
-told_of rank name (Some n) (Some exact) None = []
+abbrev pub counts_told : ℕ → List ℕ → Option Numbers → Option Found → Option Found → List (List ℕ)
+counts_told rank name (Some n) (Some exact) (Some bounded) = counted_texts rank name n exact bounded
+counts_told rank name None exact bounded = []
+counts_told rank name (Some n) None bounded = []
+counts_told rank name (Some n) (Some exact) None = []
 
 -- what is told of the row at a place, counted from 0
-abbrev pub told_at : ℕ → Counted → List (List ℕ)
-told_at i c =
-    told_of (i + 1) (slice_index_or (table_names c.table) i []) (slice_get (map plain c.filing.rows) i)
+abbrev pub counts_told_at : ℕ → Counted → List (List ℕ)
+counts_told_at i c =
+    counts_told (i + 1) (slice_index_or (table_names c.table) i []) (slice_get (map plain c.filing.rows) i)
     (slice_get (exact_findings c.filing) i) (slice_get (bounded_findings c.filing) i)
 
 -- what is told of the first rows, in rank order
 abbrev pub first_told : ℕ → Counted → List (List (List ℕ))
 first_told zero c = []
-first_told (suc i) c = first_told i c ++ told_at i c ∷ []
+first_told (suc i) c = first_told i c ++ counts_told_at i c ∷ []
 
 -- the columns of the table
 abbrev pub count_columns : List (List ℕ)

@@ -11,7 +11,7 @@ use Rattle.leaves.specs.Contents.{Contents}
 use Rattle.grids.specs.Cells.{Rows}
 use Rattle.grids.specs.Shown.{shown_of}
 use Rattle.grids.specs.CsvFields.{field_of}
-use Rattle.views.specs.Cells.{heading_fields, record_fields}
+use Rattle.views.specs.Cells.{heading_record_fields, record_fields}
 
 -- the rows of a table as people read them
 abbrev pub shown_rows : Rows → List (List (List ℕ))
@@ -41,5 +41,5 @@ StandsAt rank c None = 1 ≤ rank → length c.rows < rank
 -- the records of a leaf: one for each row, or the one that tells the heading where there is no row
 abbrev pub leaf_records : List ℕ → Contents → List (List (List ℕ))
 leaf_records name c =
-    if length c.rows == 0 then heading_fields name c.heading ∷ []
+    if length c.rows == 0 then heading_record_fields name c.heading ∷ []
     else told_rows (record_fields name c.heading) c

@@ -30,13 +30,13 @@ is_of_row _ = true
 
 -- a trouble tells a refusal of numbers: a bad frame that was named, or that there is none where none was named; a bad
 -- accuracy; or that of a row. Where memory ran out, it is not told
-abbrev pub Tells : Option FrameNumbers → Refusal → Trouble → Type 0
-Tells frame refusal trouble.Frame = (is_some frame ≡ true) × (refusal ≡ BadFrame)
-Tells frame refusal trouble.NoFrame = (frame ≡ None) × (refusal ≡ BadFrame)
-Tells frame refusal trouble.Accuracy = refusal ≡ BadAccuracy
-Tells frame refusal (trouble.Row m) = (refusal_told m ≡ Some refusal) × (is_of_row refusal ≡ true)
-Tells frame refusal (trouble.Memory e) = Unit {0}
-Tells frame refusal _ = ⊥
+abbrev pub TroubleTells : Option FrameNumbers → Refusal → Trouble → Type 0
+TroubleTells frame refusal trouble.Frame = (is_some frame ≡ true) × (refusal ≡ BadFrame)
+TroubleTells frame refusal trouble.NoFrame = (frame ≡ None) × (refusal ≡ BadFrame)
+TroubleTells frame refusal trouble.Accuracy = refusal ≡ BadAccuracy
+TroubleTells frame refusal (trouble.Row m) = (refusal_told m ≡ Some refusal) × (is_of_row refusal ≡ true)
+TroubleTells frame refusal (trouble.Memory e) = Unit {0}
+TroubleTells frame refusal _ = ⊥
 
 -- the numbers of a table are refused, on the frame and by the accuracy that are named, and the first of the refusals is
 -- told
@@ -44,7 +44,7 @@ pub record TellsFirst (frame : Option FrameNumbers) (accuracy : Option ℕ) (tab
   pub refusal : Refusal
   pub at : ℕ
   pub first : refuses refusal at ≡ first_refusal (filing_checks frame accuracy (table_numbers table))
-  pub told : Tells frame refusal t
+  pub told : TroubleTells frame refusal t
 
 -- a trouble tells the first refusal of the table that was read
 pub record TellsRefusal (held : Option (List ℕ)) (frame : Option FrameNumbers) (accuracy : Option ℕ) (t : Trouble) : Type 0 where

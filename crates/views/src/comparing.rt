@@ -8,7 +8,7 @@ ghost use Rattle.reading.specs.Leaves.{Holds};
 ghost use Rattle.grids.specs.Shown.{shown_of};
 ghost use Rattle.grids.specs.CsvFields.{headings_of};
 ghost use Rattle.views.specs.Compared.{AreCompared, IsComparison, IsComparisonOf, compared_columns, compared_head, compared_of, compared_texts, do_part, first_compared, frame_line, later_text, named_line};
-ghost use Rattle.views.specs.Leaves.{name_of};
+ghost use Rattle.views.specs.Leaves.{name_among};
 ghost use Rattle.views.specs.Ranked.{shown_rows};
 ghost use Rattle.views.specs.Troubles.{Fails, IsTroubleOf, TellsDamage, TellsDifference, Writes, of_leaves};
 
@@ -53,11 +53,11 @@ pub fn compare<A: Read, B: Read, W: Write>(
     writer: &mut W,
 ) -> Result<(), Trouble>
     ensures written { OnOk result (Writes
-        (IsComparisonOf (name_of names.entry 0) (A.remaining first.old) (name_of names.entry 1) (B.remaining second.old))
+        (IsComparisonOf (name_among names.entry 0) (A.remaining first.old) (name_among names.entry 1) (B.remaining second.old))
         (W.contents writer.old) (W.contents writer.new)) }
     ensures failed { IfErr result (Fails
-        (IsComparisonOf (name_of names.entry 0) (A.remaining first.old) (name_of names.entry 1) (B.remaining second.old))
-        (of_leaves (name_of names.entry 0) (A.remaining first.old) (name_of names.entry 1) (B.remaining second.old))
+        (IsComparisonOf (name_among names.entry 0) (A.remaining first.old) (name_among names.entry 1) (B.remaining second.old))
+        (of_leaves (name_among names.entry 0) (A.remaining first.old) (name_among names.entry 1) (B.remaining second.old))
         (W.contents writer.old) (W.contents writer.new)) }
 {
     match comparison(alloc, names, first, second) {
@@ -73,10 +73,10 @@ fn comparison<A: Read, B: Read>(
     first: &mut A,
     second: &mut B,
 ) -> Result<Vec<u8>, Trouble>
-    ensures text { IfOk result (λ text. IsComparisonOf (name_of names.entry 0) (A.remaining first.old)
-        (name_of names.entry 1) (B.remaining second.old) text.items) }
+    ensures text { IfOk result (λ text. IsComparisonOf (name_among names.entry 0) (A.remaining first.old)
+        (name_among names.entry 1) (B.remaining second.old) text.items) }
     ensures failed { IfErr result (IsTroubleOf
-        (of_leaves (name_of names.entry 0) (A.remaining first.old) (name_of names.entry 1) (B.remaining second.old))) }
+        (of_leaves (name_among names.entry 0) (A.remaining first.old) (name_among names.entry 1) (B.remaining second.old))) }
 {
     let first_bytes = read_whole(alloc, first)?;
     let second_bytes = read_whole(alloc, second)?;

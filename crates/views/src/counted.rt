@@ -2,7 +2,7 @@
 ghost use Rattle.std.specs.Prelude.{◌≡◌, ◌≤◌, length, take, Some, IfOk, IfErr, IsOkAnd};
 ghost use Rattle.task_tables.specs.Tables.{ReadsAll};
 ghost use Rattle.views.specs.Counted.{table_of, filed_of, IsCountOf, IsExactLeaf, IsLinearLeaf};
-ghost use Rattle.views.specs.Troubles.{IsTroubleOf, Tells, TellsFirst, of_table};
+ghost use Rattle.views.specs.Troubles.{IsTroubleOf, TroubleTells, TellsFirst, of_table};
 
 use crate::troubles::Trouble;
 use filings::{Filing, Progress, count};
@@ -74,7 +74,7 @@ pub(crate) fn trouble(
     frame: Option<FrameNumbers>,
     fault: Fault,
 ) -> Trouble
-    ensures { Tells frame fault.refusal result }
+    ensures { TroubleTells frame fault.refusal result }
 {
     match (fault.refusal, frame) {
         (Refusal::BadFrame, Some(_)) => Trouble::Frame,

@@ -7,7 +7,7 @@ ghost use Rattle.grids.specs.CsvFields.{headings_of};
 ghost use Rattle.brackets.specs.Counting.{gap};
 ghost use Rattle.views.specs.Cells.{counted_texts, slack_of};
 ghost use Rattle.views.specs.Counted.{filed_of};
-ghost use Rattle.views.specs.Printed.{IsTableText, count_columns, first_told, head_text, told_at};
+ghost use Rattle.views.specs.Printed.{IsTableText, count_columns, first_told, head_text, counts_told_at};
 ghost use Rattle.views.specs.Ranked.{shown_rows};
 ghost use Rattle.views.specs.Troubles.{Fails, Writes, of_nothing};
 
@@ -89,7 +89,7 @@ impl Counted {
     // The row at a place, counted from 0, with both counts.
     fn row_at(&self, alloc: Global, i: usize) -> Result<Vec<Cell>, AllocError>
         requires { i < length (filed_of self.now).rows }
-        ensures { IfOk result (λ cells. map shown_of cells.items ≡ told_at i self.now) }
+        ensures { IfOk result (λ cells. map shown_of cells.items ≡ counts_told_at i self.now) }
     {
         let (rows, exact, bounded) = (
             self.filing.rows(),

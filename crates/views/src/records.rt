@@ -4,7 +4,7 @@ ghost use Rattle.rows.specs.Judging.{plain};
 ghost use Rattle.rows.specs.Refusals.{number, words};
 ghost use Rattle.rows.specs.Found.{tells};
 ghost use Rattle.grids.specs.CsvFields.{field_of};
-ghost use Rattle.views.specs.Cells.{damage_fields, heading_fields, record_fields, row_cells};
+ghost use Rattle.views.specs.Cells.{damage_fields, heading_record_fields, record_fields, row_cells};
 
 use crate::damage::Damage;
 use crate::leaf_cells::{cell, first_rest, number_cell, push_row};
@@ -61,7 +61,7 @@ pub(crate) fn heading_record(
     name: &str,
     heading: Heading,
 ) -> Result<Vec<Cell>, AllocError>
-    ensures { IfOk result (λ cells. map field_of cells.items ≡ heading_fields name.now heading) }
+    ensures { IfOk result (λ cells. map field_of cells.items ≡ heading_record_fields name.now heading) }
 {
     let (kind, accuracy) = heading.bound.plain();
     let accuracy = if kind.has_accuracies() {

@@ -4,7 +4,7 @@ ghost use Rattle.rows.specs.Refusals.{number, words};
 ghost use Rattle.leaves.specs.Contents.{Contents};
 ghost use Rattle.reading.specs.Leaves.{Holds};
 ghost use Rattle.grids.specs.CsvFields.{headings_of};
-ghost use Rattle.views.specs.Added.{Adds, AddsHeld, GrowBy, GrowsRecords, GrowsText, IsCsvOf, IsDamageLine, IsShown, KeepsSetup, field_names, layout_of, shown_headings, shown_records, shown_text};
+ghost use Rattle.views.specs.Added.{Adds, AddsHeld, GrowBy, GrowsRecords, GrowsText, IsCsvOf, IsDamageLine, IsShown, KeepsSetup, field_names, layout_of, shown_headings, shown_records, text_added};
 ghost use Rattle.views.specs.Cells.{damage_fields, leaf_texts, record_fields};
 ghost use Rattle.views.specs.Leaves.{HeldLeaf, IsLeaf};
 ghost use Rattle.views.specs.Ranked.{StandsAt, field_rows, leaf_records, shown_rows, told_rows};
@@ -51,7 +51,7 @@ impl Show {
     /// No leaf yet. Memory alone can fail.
     pub fn new(alloc: Global, layout: Layout) -> Result<Show, AllocError>
         ensures layout { IfOk result (λ show. layout_of show ≡ layout) }
-        ensures text { IfOk result (λ show. shown_text show ≡ []) }
+        ensures text { IfOk result (λ show. text_added show ≡ []) }
         ensures headings { IfOk result (λ show. shown_headings show ≡ field_names) }
         ensures records { IfOk result (λ show. shown_records show ≡ []) }
     {
@@ -144,7 +144,7 @@ impl Show {
     // Adds a text, with an empty line between it and what is there.
     fn add_text(&mut self, text: &[u8]) -> Result<(), AllocError>
         ensures setup { KeepsSetup self.old self.new }
-        ensures text { OnOk result (shown_text self.new ≡ parted (shown_text self.old) ++ text.now) }
+        ensures text { OnOk result (text_added self.new ≡ parted (text_added self.old) ++ text.now) }
         ensures records { self.new.records ≡ self.old.records }
     {
         if !self.text.is_empty() {

@@ -26,16 +26,16 @@ abbrev pub begin_numbers_checks : HeadingNumbers → ℕ → List Check
 begin_numbers_checks n length = heading_checks n 0 ++ begin_checks length
 
 -- a row: full table, off frame, and room for it
-abbrev pub row_checks : Phase → Row → ℕ → List Check
-row_checks p r length =
+abbrev pub filed_row_checks : Phase → Row → ℕ → List Check
+filed_row_checks p r length =
     full_table_check (rows_in p) (place_of p)
     ∷ check (is_off (frame_in p) r) OffFrame (place_of p)
     ∷ room row_size (place_of p) length
     ∷ []
 
 -- a finding: miscount where as many findings as rows are filed, bad finding, and room for it
-abbrev pub finding_checks : Phase → Finding → ℕ → List Check
-finding_checks p f length =
+abbrev pub filed_finding_checks : Phase → Finding → ℕ → List Check
+filed_finding_checks p f length =
     surplus_check (rows_in p) (findings_in p) (place_of p)
     ∷ judgement f (place_of p)
     ++ room finding_size (place_of p) length ∷ []

@@ -42,7 +42,7 @@ impl FindingsLeaf {
     ghost use Rattle.leaves.specs.declared.entries.Entry.{Entry};
     ghost use Rattle.reading.specs.declared.phases.Phase.{Phase};
     ghost use Rattle.reading.specs.Phases.{place_of, rows_in, findings_in};
-    ghost use Rattle.writing.specs.Checks.{finding_checks, close_checks};
+    ghost use Rattle.writing.specs.Checks.{filed_finding_checks, close_checks};
     ghost use Rattle.writing.specs.Closing.{closing};
     ghost use Rattle.writing.specs.Filing.{Files, ReadsOn, IsFollowed, IsWholeInTurn};
     ghost use Rattle.writing.specs.States.{IsInFindings};
@@ -86,7 +86,7 @@ impl FindingsLeaf {
     /// short buffer. A refusal leaves the leaf and the buffer as they were.
     pub fn finding(&mut self, finding: &Finding, buffer: &mut [u8]) -> Result<(), Fault>
         ensures answered { refusal result
-            ≡ first_refusal (finding_checks self.old finding.now (length buffer.old)) }
+            ≡ first_refusal (filed_finding_checks self.old finding.now (length buffer.old)) }
         ensures filed { OnOk result
             (Files self.old buffer.old (Entry.Finding finding.now) self.new buffer.new) }
         ensures read { OnOk result

@@ -73,7 +73,7 @@ impl RowsLeaf {
     ghost use Rattle.leaves.specs.declared.entries.Entry.{Entry};
     ghost use Rattle.reading.specs.declared.phases.Phase.{Phase};
     ghost use Rattle.reading.specs.Phases.{place_of, rows_in, frame_in};
-    ghost use Rattle.writing.specs.Checks.{row_checks};
+    ghost use Rattle.writing.specs.Checks.{filed_row_checks};
     ghost use Rattle.writing.specs.Filing.{Files, ReadsOn};
     ghost use Rattle.writing.specs.States.{IsInRows};
 
@@ -107,7 +107,7 @@ impl RowsLeaf {
     /// the buffer as they were.
     pub fn row(&mut self, row: &Row, buffer: &mut [u8]) -> Result<(), Fault>
         ensures answered { refusal result
-            ≡ first_refusal (row_checks self.old row.now (length buffer.old)) }
+            ≡ first_refusal (filed_row_checks self.old row.now (length buffer.old)) }
         ensures filed { OnOk result
             (Files self.old buffer.old (Entry.Row row.now) self.new buffer.new) }
         ensures read { OnOk result

@@ -1,5 +1,5 @@
 // The command line, made of the forms of the subcommands.
-use crate::forms::{ABOUT, Argument, EXAMPLE, FORMS, Form, Takes};
+use crate::forms::{ABOUT, Argument, EXAMPLE, FORMS, Operand, SubcommandForm};
 use clap::{Arg, ArgAction, ArgMatches, Command, Error, value_parser};
 use std::alloc::{AllocError, Global};
 
@@ -32,7 +32,7 @@ fn described<'a>(alloc: Global, name: &'a str, about: &'a str, example: &'a str)
 }
 
 // The subcommand of a form.
-fn subcommand<'a>(alloc: Global, form: &Form) -> Result<Command<'a>, AllocError> {
+fn subcommand<'a>(alloc: Global, form: &SubcommandForm) -> Result<Command<'a>, AllocError> {
     let mut command = described(alloc, form.name, form.about, form.example);
     for argument in form.arguments {
         command = command.arg(arg(alloc, argument)?)?;
@@ -44,13 +44,13 @@ fn subcommand<'a>(alloc: Global, form: &Form) -> Result<Command<'a>, AllocError>
 fn arg<'a>(alloc: Global, argument: &Argument) -> Result<Arg<'a>, AllocError> {
     let arg = named(alloc, argument);
     match argument.takes {
-        Takes::Word(_) => Ok(arg),
-        Takes::Words(_) => Ok(words(arg)),
-        Takes::Text(_) => Ok(arg.long(argument.name)),
-        Takes::Lettered(letter, _) => Ok(arg.long(argument.name).short(letter)),
-        Takes::Number(_) => Ok(number(arg, argument.name)),
-        Takes::Nothing => Ok(flag(arg, argument.name)),
-        Takes::NothingBeside(other) => flag(arg, argument.name).conflicts_with(other),
+        Operand::Word(_) => Ok(arg),
+        Operand::Words(_) => Ok(words(arg)),
+        Operand::Text(_) => Ok(arg.long(argument.name)),
+        Operand::Lettered(letter, _) => Ok(arg.long(argument.name).short(letter)),
+        Operand::Number(_) => Ok(number(arg, argument.name)),
+        Operand::Nothing => Ok(flag(arg, argument.name)),
+        Operand::NothingBeside(other) => flag(arg, argument.name).conflicts_with(other),
     }
 }
 
@@ -66,14 +66,14 @@ fn named<'a>(alloc: Global, argument: &Argument) -> Arg<'a> {
 }
 
 // What help calls a value.
-fn value_name(takes: Takes) -> Option<&'static str> {
+fn value_name(takes: Operand) -> Option<&'static str> {
     match takes {
-        Takes::Word(name)
-        | Takes::Words(name)
-        | Takes::Text(name)
-        | Takes::Lettered(_, name)
-        | Takes::Number(name) => Some(name),
-        Takes::Nothing | Takes::NothingBeside(_) => None,
+        Operand::Word(name)
+        | Operand::Words(name)
+        | Operand::Text(name)
+        | Operand::Lettered(_, name)
+        | Operand::Number(name) => Some(name),
+        Operand::Nothing | Operand::NothingBeside(_) => None,
     }
 }
 

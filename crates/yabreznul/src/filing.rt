@@ -3,7 +3,7 @@ use crate::complaints::{Failed, misused, or_complain};
 use crate::files::{Draft, write_files};
 use crate::inputs::{Source, open_or_complain};
 use crate::outputs::print;
-use crate::progress::Told;
+use crate::progress::Teller;
 use crate::requests::{counting, source};
 use clap::ArgMatches;
 use std::alloc::Global;
@@ -37,7 +37,7 @@ fn file_leaves(
 // Reads a table and counts it.
 fn count(rt: &HostRuntime, table: Source<'_>, how: Counting) -> Result<Counted, Failed> {
     let mut reader = open_or_complain(rt, table)?;
-    let mut told = Told::begin(rt);
+    let mut told = Teller::begin(rt);
     let counted = count_table(rt.alloc(), &mut reader, how, &mut told);
     told.clear();
     or_complain(rt, table.name(), counted)

@@ -2,7 +2,7 @@
 
 /// What an argument takes, with the names of its values in help.
 #[derive(Clone, Copy)]
-pub(crate) enum Takes {
+pub(crate) enum Operand {
     /// One word, told by where it stands.
     Word(&'static str),
     /// Any number of words, told by where they stand.
@@ -23,14 +23,14 @@ pub(crate) enum Takes {
 #[derive(Clone, Copy)]
 pub(crate) struct Argument {
     pub(crate) name: &'static str,
-    pub(crate) takes: Takes,
+    pub(crate) takes: Operand,
     pub(crate) required: bool,
     pub(crate) help: &'static str,
 }
 
 /// A subcommand.
 #[derive(Clone, Copy)]
-pub(crate) struct Form {
+pub(crate) struct SubcommandForm {
     pub(crate) name: &'static str,
     pub(crate) about: &'static str,
     pub(crate) example: &'static str,
@@ -44,44 +44,44 @@ pub(crate) const ABOUT: &str =
 pub(crate) const EXAMPLE: &str = "Example:\n  yabreznul file worked.csv --linear 3 --out worked";
 
 /// The subcommands, in the order of help.
-pub(crate) const FORMS: &[Form] = &[FILE, SHOW, COMPARE, PLOT, SHEET, BENCH];
+pub(crate) const FORMS: &[SubcommandForm] = &[FILE, SHOW, COMPARE, PLOT, SHEET, BENCH];
 
-const FILE: Form = Form {
+const FILE: SubcommandForm = SubcommandForm {
     name: "file",
     about: "Counts a task table twice, files both leaves and prints the table",
     example: EXAMPLE,
     arguments: &[TABLE, ACCURACY, FRAME, OUT, FORCE],
 };
 
-const SHOW: Form = Form {
+const SHOW: SubcommandForm = SubcommandForm {
     name: "show",
     about: "Prints what leaves hold, as tables",
     example: "Example:\n  yabreznul show worked.exact.leaf worked.linear-3.leaf",
     arguments: &[CSV, JSON, LEAVES],
 };
 
-const COMPARE: Form = Form {
+const COMPARE: SubcommandForm = SubcommandForm {
     name: "compare",
     about: "Sets two leaves of one table beside each other",
     example: "Example:\n  yabreznul compare worked.exact.leaf worked.linear-1.leaf",
     arguments: &[FIRST, SECOND],
 };
 
-const PLOT: Form = Form {
+const PLOT: SubcommandForm = SubcommandForm {
     name: "plot",
     about: "Draws the demand of one row as a picture",
     example: "Example:\n  yabreznul plot worked.csv --rank 3 --linear 3 -o third.svg",
     arguments: &[TABLE, RANK, ACCURACY, FRAME, OUTPUT, FORCE],
 };
 
-const SHEET: Form = Form {
+const SHEET: SubcommandForm = SubcommandForm {
     name: "sheet",
     about: "Writes the sheet of a table, which survey answers",
     example: "Example:\n  yabreznul sheet worked.csv --linear 3 | survey > worked.leaf",
     arguments: &[TABLE, LINEAR, FRAME],
 };
 
-const BENCH: Form = Form {
+const BENCH: SubcommandForm = SubcommandForm {
     name: "bench",
     about: "Plays a script of calls on an admission bench",
     example: "Example:\n  yabreznul bench calls.txt",
@@ -90,98 +90,98 @@ const BENCH: Form = Form {
 
 const TABLE: Argument = Argument {
     name: "table",
-    takes: Takes::Word("TABLE"),
+    takes: Operand::Word("TABLE"),
     required: false,
     help: "The task table; - or none is standard input",
 };
 
 const LINEAR: Argument = Argument {
     name: "linear",
-    takes: Takes::Number("K"),
+    takes: Operand::Number("K"),
     required: false,
     help: "The accuracy of the linear tail, from 1 to 64",
 };
 
 const ACCURACY: Argument = Argument {
     name: "linear",
-    takes: Takes::Number("K"),
+    takes: Operand::Number("K"),
     required: true,
     help: "The accuracy of the linear tail, from 1 to 64",
 };
 
 const FRAME: Argument = Argument {
     name: "frame",
-    takes: Takes::Number("H"),
+    takes: Operand::Number("H"),
     required: false,
     help: "The frame; without it the least common multiple of the periods",
 };
 
 const OUT: Argument = Argument {
     name: "out",
-    takes: Takes::Text("NAME"),
+    takes: Operand::Text("NAME"),
     required: true,
     help: "Names the leaves: NAME.exact.leaf and NAME.linear-K.leaf",
 };
 
 const FORCE: Argument = Argument {
     name: "force",
-    takes: Takes::Nothing,
+    takes: Operand::Nothing,
     required: false,
     help: "Overwrites files that are there already",
 };
 
 const CSV: Argument = Argument {
     name: "csv",
-    takes: Takes::NothingBeside("json"),
+    takes: Operand::NothingBeside("json"),
     required: false,
     help: "Prints CSV, for programs",
 };
 
 const JSON: Argument = Argument {
     name: "json",
-    takes: Takes::Nothing,
+    takes: Operand::Nothing,
     required: false,
     help: "Prints JSON, for programs",
 };
 
 const LEAVES: Argument = Argument {
     name: "leaf",
-    takes: Takes::Words("LEAF"),
+    takes: Operand::Words("LEAF"),
     required: false,
     help: "The leaves; - or none is standard input",
 };
 
 const FIRST: Argument = Argument {
     name: "first",
-    takes: Takes::Word("A"),
+    takes: Operand::Word("A"),
     required: true,
     help: "A leaf; - is standard input",
 };
 
 const SECOND: Argument = Argument {
     name: "second",
-    takes: Takes::Word("B"),
+    takes: Operand::Word("B"),
     required: true,
     help: "Another leaf of the same table",
 };
 
 const RANK: Argument = Argument {
     name: "rank",
-    takes: Takes::Number("R"),
+    takes: Operand::Number("R"),
     required: true,
     help: "The row to draw, 1 the highest",
 };
 
 const OUTPUT: Argument = Argument {
     name: "output",
-    takes: Takes::Lettered('o', "FILE.svg"),
+    takes: Operand::Lettered('o', "FILE.svg"),
     required: true,
     help: "The file to write; - is standard output",
 };
 
 const SCRIPT: Argument = Argument {
     name: "script",
-    takes: Takes::Word("SCRIPT"),
+    takes: Operand::Word("SCRIPT"),
     required: false,
     help: "The script; - or none is standard input",
 };

@@ -3,7 +3,7 @@ use crate::complaints::{Failed, misused, or_complain};
 use crate::files::{Draft, write_files};
 use crate::inputs::{Source, open_or_complain};
 use crate::outputs::print;
-use crate::progress::Told;
+use crate::progress::Teller;
 use crate::requests::{counting, source};
 use clap::ArgMatches;
 use std::alloc::Global;
@@ -29,7 +29,7 @@ pub(crate) fn plot(rt: &HostRuntime, given: &ArgMatches<'_>) -> Result<(), Faile
 // The picture of a row.
 fn draw(rt: &HostRuntime, table: Source<'_>, rank: u32, how: Counting) -> Result<Vec<u8>, Failed> {
     let mut reader = open_or_complain(rt, table)?;
-    let mut told = Told::begin(rt);
+    let mut told = Teller::begin(rt);
     let mut picture = Vec::new(rt.alloc());
     let drawn = views::plot(rt.alloc(), &mut reader, rank, how, &mut told, &mut picture);
     told.clear();

@@ -10,20 +10,20 @@ const PATIENT_SECONDS: u64 = 1;
 /// Tells on standard error how many rows are counted, where that is a terminal and more than a second has
 /// passed. Where it is none, or there is no clock, it tells nothing.
 #[derive(Drop)]
-pub(crate) struct Told<'a> {
+pub(crate) struct Teller<'a> {
     rt: &'a HostRuntime,
     began: Option<Instant>,
     written: bool,
 }
 
-impl<'a> Told<'a> {
-    pub(crate) fn begin(rt: &'a HostRuntime) -> Told<'a> {
+impl<'a> Teller<'a> {
+    pub(crate) fn begin(rt: &'a HostRuntime) -> Teller<'a> {
         let began = if rt.stderr().is_terminal() {
             Instant::now(rt).ok()
         } else {
             None
         };
-        Told {
+        Teller {
             rt,
             began,
             written: false,
@@ -55,7 +55,7 @@ fn is_late(passed: io::Result<Duration>) -> bool {
     }
 }
 
-impl Progress for Told<'_> {
+impl Progress for Teller<'_> {
     fn counted(&mut self, rows: usize, of: usize) {
         if self.is_due() {
             let _ = eprint!(self.rt; "\rcounted {rows} of {of} rows");

@@ -57,5 +57,5 @@ batch_laws p low high some =
     }
 
 -- every bound by batches that is made shows the laws, since its numbers are in range
-pub laws_of : (b : Batches) → Laws (batches (parameters_of b))
-laws_of b = batch_laws (parameters_of b) b.low b.high b.some
+pub batches_laws : (b : Batches) → Laws (batches (parameters_of b))
+batches_laws b = batch_laws (parameters_of b) b.low b.high b.some

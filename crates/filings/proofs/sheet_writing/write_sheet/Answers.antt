@@ -6,7 +6,7 @@ use Rattle.rows.proofs.Checks.{given_is, refused_first}
 use Rattle.bounds.specs.Families.{bound_numbers}
 use Rattle.reading.specs.Phases.{place_of}
 use Rattle.filings.specs.Checks.{accuracy_checks, filing_checks, frame_checks, frame_for}
-use Rattle.filings.specs.Filings.{heading_of}
+use Rattle.filings.specs.Filings.{heading_numbers}
 use Rattle.filings.specs.Sheets.{bound_pair, heading_for, room_checks, sheet_length}
 use Rattle.filings.proofs.Order.{table_given, table_refused}
 use Rattle.filings.proofs.Written.{as_many, opened_by, sheet_told, sheet_written, sheeted}
@@ -42,5 +42,5 @@ returns-clause-written c =
     let frame : c.numbers-frame.result ≡ frame_for c.args.frame numbers = c.numbers-frame.ensures.answered ∙ c.frame.ensures.answered ∙ ap (λ t. t.frame) c.in_ok-judged.ensures.made ∙ ap (λ f. frame_for f numbers) given in
     let bound : bound_numbers c.in_ok-bound.bound ≡ bound_pair c.args.accuracy = given_is (accuracy_checks c.args.accuracy) _ _ c.in_ok-bound.ensures in
     sheet_written _ c.in_ok-judged.judged.rows numbers (heading_for (frame_for c.args.frame numbers) c.args.accuracy) c.place.result c.in_ok-leaf.ensures.filed.0 c.put_rows.ensures
-    (c.place.ensures ∙ ap place_of c.phase.ensures.answered) (ap₂ (λ k b. heading_of k b.0 b.1) frame bound)
+    (c.place.ensures ∙ ap place_of c.phase.ensures.answered) (ap₂ (λ k b. heading_numbers k b.0 b.1) frame bound)
     (subst (λ k. IsJudged (book k c.in_ok-judged.judged.rows)) (sym (c.numbers-frame.ensures.answered ∙ c.frame.ensures.answered)) c.frame.ensures.judged) (ap (λ t. t.rows) c.in_ok-judged.ensures.made) c.in_ok-judged.ensures.rows

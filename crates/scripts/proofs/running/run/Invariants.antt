@@ -1,6 +1,6 @@
 -- What was read so far is played.
 use Rattle.scripts.specs.Blocks.{PlayedOn}
-use Rattle.scripts.specs.Progress.{progress_of, first_progress}
+use Rattle.scripts.specs.PlayState.{progress_of, first_progress}
 use Rattle.scripts.proofs.running.run.Given as goal
 
 abbrev pub invariant-loop : goal.invariant-loop

@@ -4,7 +4,7 @@ use Rattle.rows.specs.Times.{most_rows}
 use Rattle.std.proofs.lemmas.Result.{err_from_is_err_and}
 use Rattle.reading.specs.Readers.{reading_of}
 use Rattle.rows.specs.Answers.{gives}
-use Rattle.sheets.specs.Reading.{Fits}
+use Rattle.sheets.specs.Reading.{FitsSheet}
 use Rattle.sheets.specs.Tables.{on_sheet}
 use Rattle.sheets.proofs.Once.{fits_once}
 use Rattle.sheets.proofs.Walks.{HasRead, read_heading, next_row, read_row, read_all, read_refused, sheet_is}
@@ -60,4 +60,4 @@ returns-clause-fits c =
     let h = c.in_ok-heading.heading in
     let none = rw c.in_default.is at c.in_ok-row.ensures.taken in
     let is = sheet_is c.of.result h c.loop-row.table.rows c.of.ensures.rows (c.of.ensures.frame ∙ c.loop-row.invariant.frame) c.of.ensures.bound in
-    subst (λ t. Fits c.args.bytes.now (gives t)) (sym is) (read_all c.args.bytes.now (on_sheet h c.loop-row.table.rows) (reading_of c.loop-row.reader) c.loop-row.invariant.read none)
+    subst (λ t. FitsSheet c.args.bytes.now (gives t)) (sym is) (read_all c.args.bytes.now (on_sheet h c.loop-row.table.rows) (reading_of c.loop-row.reader) c.loop-row.invariant.read none)

@@ -1,7 +1,7 @@
 use Rattle.std.proofs.Common.{◌≡◌, length, take, subst, rules}
 use Rattle.rows.specs.Answers.{first_refusal, gives, refuses}
 use Rattle.rows.specs.Lists.{written}
-use Rattle.sheets.specs.Reading.{Fits}
+use Rattle.sheets.specs.Reading.{FitsSheet}
 use Rattle.sheets.specs.Tables.{OnSheet, sheet_bytes}
 use Rattle.filings.specs.Checks.{filing_checks, frame_for}
 use Rattle.filings.specs.Sheets.{heading_for, IsTableOf}
@@ -14,7 +14,7 @@ returns-in-Ok-clause-sheet c =
     let accuracy = c.args.accuracy in
     let ns = c.numbers.result.now in
     let new = c.write_sheet.new.buffer in
-    let filled : (t : OnSheet) × IsTableOf (heading_for (frame_for frame ns) accuracy) ns t × (new ≡ written _ 0 (sheet_bytes t)) × Fits (take c.in-Ok.length new) (gives t) = c.in-Ok.ensures.written in
+    let filled : (t : OnSheet) × IsTableOf (heading_for (frame_for frame ns) accuracy) ns t × (new ≡ written _ 0 (sheet_bytes t)) × FitsSheet (take c.in-Ok.length new) (gives t) = c.in-Ok.ensures.written in
     record {
       sheet = filled.0;
       tasks = subst (λ xs. IsTableOf (heading_for (frame_for frame xs) accuracy) xs filled.0) c.numbers.ensures.numbers filled.1;

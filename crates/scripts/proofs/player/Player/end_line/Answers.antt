@@ -1,5 +1,5 @@
 use Rattle.std.proofs.Common.{◌≡◌, rules}
-use Rattle.scripts.specs.Progress.{progress_of, written_at_end}
+use Rattle.scripts.specs.PlayState.{progress_of, written_at_end}
 use Rattle.scripts.proofs.Beginnings.{Begun-same}
 use Rattle.scripts.proofs.player.Player.end_line.Goals as goal
 

@@ -2,7 +2,7 @@ use Rattle.std.proofs.Common.{arith, ◌+◌, ◌++◌, drop, get_or, sym, ap, �
 use Rattle.std.proofs.KnownBytes.{Appends-trans}
 use Rattle.std.proofs.lemmas.Result.{err_from_is_err_and}
 use Rattle.scripts.specs.Written.{Begun}
-use Rattle.scripts.specs.Progress.{progress_of, after_byte, written_for_byte, written_for_bytes}
+use Rattle.scripts.specs.PlayState.{progress_of, after_byte, written_for_byte, written_for_bytes}
 use Rattle.scripts.proofs.Beginnings.{Begun-after, Begun-longer}
 use Rattle.scripts.proofs.Played.{played_more, written_more, written_next}
 use Rattle.scripts.proofs.player.Player.take_all.Goals as goal

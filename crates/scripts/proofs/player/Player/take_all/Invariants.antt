@@ -1,7 +1,7 @@
 -- What was written so far and what the bytes left have written for them is all of it.
 use Rattle.std.proofs.Common.{◌≡◌, ℕ, List, ◌++◌, drop}
 use Rattle.std.specs.Io.KnownBytes.{Appends}
-use Rattle.scripts.specs.Progress.{progress_of, after_bytes, written_for_bytes}
+use Rattle.scripts.specs.PlayState.{progress_of, after_bytes, written_for_bytes}
 use Rattle.scripts.proofs.player.Player.take_all.Given as goal
 
 abbrev pub invariant-loop-byte : goal.invariant-loop-byte

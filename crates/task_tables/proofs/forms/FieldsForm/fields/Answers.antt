@@ -5,8 +5,8 @@ use Rattle.csv.specs.Records.{fields_of}
 use Rattle.task_tables.specs.Fields.{trimmed}
 use Rattle.task_tables.specs.Forms.{counts}
 use Rattle.task_tables.proofs.Rows.{field_there, grown, kept}
-use Rattle.task_tables.proofs.forms.Form.fields.Goals as goal
-use Rattle.task_tables.proofs.forms.Form.fields.Goals.{in-Some+then-counts+in_ok-push, in-Some+else-counts, in_default}
+use Rattle.task_tables.proofs.forms.FieldsForm.fields.Goals as goal
+use Rattle.task_tables.proofs.forms.FieldsForm.fields.Goals.{in-Some+then-counts+in_ok-push, in-Some+else-counts, in_default}
 
 pub loop-index-preserved : goal.loop-index-preserved
 loop-index-preserved c =
