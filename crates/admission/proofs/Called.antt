@@ -1,5 +1,6 @@
 -- What a call of the code does, by what it found on its way.
-use Rattle.std.proofs.Common.{◌≡◌, ◌≢◌, ℕ, zero, suc, ◌+◌, ◌-◌, ◌<◌, ◌≤◌, Bool, true, false, not, leb, List, [], ◌∷◌, ◌++◌, length, get_or, take, drop, Some, None, refl, sym, ap, ◌∙◌, subst, arith, position}
+use Rattle.std.proofs.Common.{◌≡◌, ◌≢◌, ℕ, zero, suc, ◌+◌, ◌-◌, ◌<◌, ◌≤◌, Bool, true, false, not, leb, List, [], ◌∷◌}
+use Rattle.std.proofs.Common.{◌++◌, length, get_or, take, drop, Some, None, refl, sym, ap, ◌∙◌, subst, arith, position}
 use Rattle.std.specs.List.{All, AllPass, insert, remove}
 use Rattle.std.specs.Option.{option_map, unwrap_or}
 use Rattle.std.proofs.lemmas.Bool.{and_from, le-leb, lt-leb, not-false}
@@ -60,7 +61,8 @@ refuses_so m c now x kept refused =
     record { becomes = kept ∙ ap (λ p. bench m now.bound p.0) (sym s); replies = ap (λ p. p.1) (sym s) }
 
 -- a call that passes its checks does what the book says where it comes to the book once it is done
-pub does_so : {B : Type 0} (m : Meaning) (c : Call) (old new : Held B) (reply : Reply) (x : Told) → gives x ≡ checked (checks_of m old.book c) (told m old.book c)
+pub does_so : {B : Type 0} (m : Meaning) (c : Call) (old new : Held B) (reply : Reply) (x : Told)
+    → gives x ≡ checked (checks_of m old.book c) (told m old.book c)
     → answer_of reply ≡ gives x → new ≡ bench m old.bound (once_done old.book c) → Does m c old new reply
 does_so m c old new reply x given replied becomes =
     let s = step_given m old.book c x given in
@@ -68,47 +70,65 @@ does_so m c old new reply x given replied becomes =
 
 -- a rank from 1 to the last is one
 is_within : (last rank : ℕ) → 1 ≤ rank → rank ≤ last → not (is_rank last rank) ≡ false
-is_within last rank low high = ap not (and_from (leb 1 rank) (leb rank last) (le-leb 1 rank low) (le-leb rank last high))
+is_within last rank low high =
+    ap not (and_from (leb 1 rank) (leb rank last) (le-leb 1 rank low) (le-leb rank last high))
 
 -- where no place has it, no element has
 pub nowhere : {X : Type 0} (wrong : X → Bool) (xs : List X) → position wrong xs ≡ None → All (λ x. wrong x ≡ false) xs
-nowhere wrong xs none = (places_pass {A = Unit {0}} wrong (λ i. i) xs Overload tt (gives tt) (ap (λ o. refuses_at {A = Unit {0}} Overload (option_map (λ i. i) o) (gives tt)) (sym none))).0
+nowhere wrong xs none =
+    (places_pass {A = Unit {0}} wrong (λ i. i) xs Overload tt (gives tt)
+    (ap (λ o. refuses_at {A = Unit {0}} Overload (option_map (λ i. i) o) (gives tt)) (sym none))).0
 
 -- findings none of which is a miss are all met
 pub all_meet : (fs : List Found) → position is_miss fs ≡ None → AllPass is_met fs
-all_meet fs none = All-weaker (λ f. is_miss f ≡ false) (λ f. is_met f ≡ true) (λ f. not-false (is_met f)) fs (nowhere is_miss fs none)
+all_meet fs none =
+    All-weaker (λ f. is_miss f ≡ false) (λ f. is_met f ≡ true) (λ f. not-false (is_met f)) fs (nowhere is_miss fs none)
 
 -- a row of four numbers that is to be put in at a rank
-module _ (m : Meaning) (b : Book) (rank : ℕ) (n : Numbers) (r : Row) (judged : gives (plain r) ≡ checked (flaw_checks (frame_flaws b.frame) n 0) n) where
+module _ (m : Meaning) (b : Book) (rank : ℕ) (n : Numbers) (r : Row)
+    (judged : gives (plain r) ≡ checked (flaw_checks (frame_flaws b.frame) n 0) n) where
   -- the rows with the newcomer are those with it put in
   pub newcomer_is : with_newcomer rank n b.rows ≡ insert b.rows (rank - 1) r
   newcomer_is =
       let same : n ≡ plain r = sym (given_is (flaw_checks (frame_flaws b.frame) n 0) (plain r) n judged) in
-      ap (λ rs. take (rank - 1) b.rows ++ (rs ++ drop (rank - 1) b.rows)) (ap (λ x. rows_of (x ∷ [])) same ∙ rows_of_plain (r ∷ []))
+      ap (λ rs. take (rank - 1) b.rows ++ (rs ++ drop (rank - 1) b.rows))
+      (ap (λ x. rows_of (x ∷ [])) same ∙ rows_of_plain (r ∷ []))
 
   module _ (room : length b.rows + 1 ≤ most_rows) (low : 1 ≤ rank) (high : rank ≤ length b.rows + 1) where
     -- the answer is that of the last check
     last_check : (y : Told) → checked (checks_of m b (Admit rank n)) y ≡ checked (overload_check m b rank n ∷ []) y
     last_check y =
         let last = overload_check m b rank n in
-        sym (passed_first (flaw_checks (frame_flaws b.frame) n 0) (check (leb most_rows (length b.rows)) FullTable 0 ∷ check (not (is_rank (length b.rows + 1) rank)) NoRank 0 ∷ last ∷ []) (plain r) n judged y)
-        ∙ passes_on (leb most_rows (length b.rows)) FullTable 0 (checked (check (not (is_rank (length b.rows + 1) rank)) NoRank 0 ∷ last ∷ []) y) (lt-leb most_rows (length b.rows) (omega (arith, room)))
-        ∙ passes_on (not (is_rank (length b.rows + 1) rank)) NoRank 0 (checked (last ∷ []) y) (is_within (length b.rows + 1) rank low high)
+        sym (passed_first (flaw_checks (frame_flaws b.frame) n 0)
+        (check (leb most_rows (length b.rows)) FullTable 0 ∷ check (not (is_rank (length b.rows + 1) rank)) NoRank 0
+        ∷ last ∷ []) (plain r) n judged y)
+        ∙ passes_on (leb most_rows (length b.rows)) FullTable 0
+        (checked (check (not (is_rank (length b.rows + 1) rank)) NoRank 0 ∷ last ∷ []) y)
+        (lt-leb most_rows (length b.rows) (omega (arith, room)))
+        ∙ passes_on (not (is_rank (length b.rows + 1) rank)) NoRank 0 (checked (last ∷ []) y)
+        (is_within (length b.rows + 1) rank low high)
 
     module _ (rows : List Row) (with : rows ≡ insert b.rows (rank - 1) r) where
       -- a newcomer is admitted where with it no row misses
-      pub admits : position is_miss (findings_of m b.frame rows) ≡ None → gives done ≡ checked (checks_of m b (Admit rank n)) done
+      pub admits : position is_miss (findings_of m b.frame rows) ≡ None
+          → gives done ≡ checked (checks_of m b (Admit rank n)) done
       admits none =
-          sym (last_check done ∙ ap (λ rs. checked (check_each is_miss Overload (findings_of m b.frame rs) ∷ []) done) (newcomer_is ∙ sym with) ∙ ap (λ o. refuses_at Overload (option_map (λ i. i + 1) o) (gives done)) none)
+          sym (last_check done
+          ∙ ap (λ rs. checked (check_each is_miss Overload (findings_of m b.frame rs) ∷ []) done)
+          (newcomer_is ∙ sym with) ∙ ap (λ o. refuses_at Overload (option_map (λ i. i + 1) o) (gives done)) none)
 
       -- a newcomer is refused where with it a row misses
-      pub overloads : (i : ℕ) → position is_miss (findings_of m b.frame rows) ≡ Some i → refuses Overload (i + 1) ≡ checked (checks_of m b (Admit rank n)) done
+      pub overloads : (i : ℕ) → position is_miss (findings_of m b.frame rows) ≡ Some i
+          → refuses Overload (i + 1) ≡ checked (checks_of m b (Admit rank n)) done
       overloads i some =
-          sym (last_check done ∙ ap (λ rs. checked (check_each is_miss Overload (findings_of m b.frame rs) ∷ []) done) (newcomer_is ∙ sym with) ∙ ap (λ o. refuses_at Overload (option_map (λ i. i + 1) o) (gives done)) some)
+          sym (last_check done
+          ∙ ap (λ rs. checked (check_each is_miss Overload (findings_of m b.frame rs) ∷ []) done)
+          (newcomer_is ∙ sym with) ∙ ap (λ o. refuses_at Overload (option_map (λ i. i + 1) o) (gives done)) some)
 
 -- a row taken out at a rank
 pub without_is : (rank : ℕ) (rows : List Row) → 1 ≤ rank → remove rows (rank - 1) ≡ without rank rows
-without_is rank rows low = let up : suc (rank - 1) ≡ rank = omega arith in ap (λ k. take (rank - 1) rows ++ drop k rows) up
+without_is rank rows low = let up : suc (rank - 1) ≡ rank = omega arith in
+    ap (λ k. take (rank - 1) rows ++ drop k rows) up
 
 -- the element at a rank is that at the place before it
 at_place : {X : Type 0} (xs : List X) (i : ℕ) (d : X) → i < length xs → first_of (drop i xs) ≡ Some (get_or xs i d)
@@ -116,29 +136,39 @@ at_place [] i d within = absurd (omega arith)
 at_place (x ∷ xs) zero d within = refl
 at_place (x ∷ xs) (suc i) d within = at_place xs i d (omega arith)
 
-rank_place : {X : Type 0} (xs : List X) (rank : ℕ) (d : X) → 1 ≤ rank → rank ≤ length xs → at_rank rank xs ≡ Some (get_or xs (rank - 1) d)
-rank_place xs rank d low high = let up : suc (rank - 1) ≡ rank = omega arith in subst (λ n. at_rank n xs ≡ Some (get_or xs (rank - 1) d)) up (at_place xs (rank - 1) d (omega arith))
+rank_place : {X : Type 0} (xs : List X) (rank : ℕ) (d : X) → 1 ≤ rank → rank ≤ length xs
+    → at_rank rank xs ≡ Some (get_or xs (rank - 1) d)
+rank_place xs rank d low high = let up : suc (rank - 1) ≡ rank = omega arith in
+    subst (λ n. at_rank n xs ≡ Some (get_or xs (rank - 1) d)) up (at_place xs (rank - 1) d (omega arith))
 
 -- what is kept at a place is what inquiring at its rank tells
-module _ (m : Meaning) (k : Kept) (keeps : Keeps m k) (rank : ℕ) (low : 1 ≤ rank) (high : rank ≤ length k.table.rows) (d : Row) (e : Finding) where
-  finding_is : tells (get_or k.findings.items (rank - 1) e) ≡ row_finding m k.table.frame (get_or k.table.rows (rank - 1) d) (take (rank - 1) k.table.rows)
+module _ (m : Meaning) (k : Kept) (keeps : Keeps m k) (rank : ℕ) (low : 1 ≤ rank) (high : rank ≤ length k.table.rows)
+    (d : Row) (e : Finding) where
+  finding_is : tells (get_or k.findings.items (rank - 1) e)
+      ≡ row_finding m k.table.frame (get_or k.table.rows (rank - 1) d) (take (rank - 1) k.table.rows)
   finding_is =
       let place = rank - 1 in
       let many : length k.findings.items ≡ length k.table.rows =
-      sym (length-map k.findings.items tells) ∙ ap length keeps.counted ∙ length_findings_below m k.table.frame [] k.table.rows in
+      sym (length-map k.findings.items tells) ∙ ap length keeps.counted
+      ∙ length_findings_below m k.table.frame [] k.table.rows in
       sym (get_or-map tells k.findings.items place e (tells e) (omega arith))
       ∙ ap (λ fs. get_or fs place (tells e)) keeps.counted
       ∙ finding_below_at m k.table.frame [] k.table.rows place (tells e) d (omega arith)
 
-  pub inquired : gives (row_found (plain (get_or k.table.rows (rank - 1) d)) (tells (get_or k.findings.items (rank - 1) e)))
+  pub inquired : gives
+      (row_found (plain (get_or k.table.rows (rank - 1) d)) (tells (get_or k.findings.items (rank - 1) e)))
       ≡ checked (checks_of m k.table (Inquire rank)) (told m k.table (Inquire rank))
   inquired =
       let rows = k.table.rows in
       let r = get_or rows (rank - 1) d in
       let there : at_rank rank rows ≡ Some r = rank_place rows rank d low high in
-      let tells_so : told m k.table (Inquire rank) ≡ row_found (plain r) (row_finding m k.table.frame r (take (rank - 1) rows)) =
-      ap (λ o. unwrap_or (option_map (λ r. row_found (plain r) (row_finding m k.table.frame r (take (rank - 1) rows))) o) done) there in
-      sym (passes_on (not (is_rank (length rows) rank)) NoRank 0 (gives (told m k.table (Inquire rank))) (is_within (length rows) rank low high)
+      let tells_so : told m k.table (Inquire rank)
+      ≡ row_found (plain r) (row_finding m k.table.frame r (take (rank - 1) rows)) =
+      ap (λ o. unwrap_or
+      (option_map (λ r. row_found (plain r) (row_finding m k.table.frame r (take (rank - 1) rows))) o) done) there
+      in
+      sym (passes_on (not (is_rank (length rows) rank)) NoRank 0 (gives (told m k.table (Inquire rank)))
+      (is_within (length rows) rank low high)
       ∙ ap gives (tells_so ∙ ap (row_found (plain r)) (sym finding_is)))
 
 -- what an admit knows when it comes to count: the newcomer is a row on the frame, and there is a place at the rank
@@ -148,8 +178,10 @@ pub record Enters (k : Kept) (rank : ℕ) (n : Numbers) (r : Row) : Type 0 where
   pub ranked_so : (1 ≤ rank) × (rank ≤ length k.table.rows + 1)
 
 -- it comes from the checks made
-pub entering : (k : Kept) (rank : ℕ) (n : Numbers) (r : Row) (h : FrameNumbers) (count : ℕ) → h ≡ k.table.frame → gives (plain r) ≡ checked (flaw_checks (frame_flaws h) n 0) n
-    → count ≡ length k.table.rows → IsJudged k.table → count ≢ most_rows → Passes (rank_checks (count + 1) rank) → Enters k rank n r
+pub entering : (k : Kept) (rank : ℕ) (n : Numbers) (r : Row) (h : FrameNumbers) (count : ℕ) → h ≡ k.table.frame
+    → gives (plain r) ≡ checked (flaw_checks (frame_flaws h) n 0) n
+    → count ≡ length k.table.rows → IsJudged k.table → count ≢ most_rows → Passes (rank_checks (count + 1) rank)
+    → Enters k rank n r
 entering k rank n r h count frame judged many table apart passes = record {
   judged = subst (λ h. gives (plain r) ≡ checked (flaw_checks (frame_flaws h) n 0) n) frame judged;
   room = omega (arith, many, table.few, apart);
@@ -157,8 +189,10 @@ entering k rank n r h count frame judged many table apart passes = record {
 }
 
 -- a table with a row of four numbers put in at a rank
-module _ {B : Type 0} (m : Meaning) (bound : B) (k : Kept) (keeps : Keeps m k) (rank : ℕ) (n : Numbers) (r : Row) (enters : Enters k rank n r)
-    (new : Kept) (counted : IsCounted m new) (with : new.table ≡ book k.table.frame (insert k.table.rows (rank - 1) r)) where
+module _ {B : Type 0} (m : Meaning) (bound : B) (k : Kept) (keeps : Keeps m k) (rank : ℕ) (n : Numbers) (r : Row)
+    (enters : Enters k rank n r)
+    (new : Kept) (counted : IsCounted m new)
+    (with : new.table ≡ book k.table.frame (insert k.table.rows (rank - 1) r)) where
   -- is kept where no row misses
   pub kept_with : position is_miss (kept_findings new) ≡ None → Keeps m new
   kept_with none = record { counted = counted; meet = all_meet (kept_findings new) none }
@@ -168,16 +202,20 @@ module _ {B : Type 0} (m : Meaning) (bound : B) (k : Kept) (keeps : Keeps m k) (
   found_with = counted ∙ ap (λ b. findings_of m b.frame b.rows) with
 
   -- where with the newcomer no row misses, the bench with it is that of an admission
-  pub admits_so : position is_miss (kept_findings new) ≡ None → Does m (Admit rank n) (seen bound k) (seen bound new) Done
+  pub admits_so : position is_miss (kept_findings new) ≡ None
+      → Does m (Admit rank n) (seen bound k) (seen bound new) Done
   admits_so none =
       does_so m (Admit rank n) (seen bound k) (seen bound new) Done done
-      (admits m k.table rank n r enters.judged enters.room enters.ranked_so.0 enters.ranked_so.1 (insert k.table.rows (rank - 1) r) refl (ap (position is_miss) (sym found_with) ∙ none))
+      (admits m k.table rank n r enters.judged enters.room enters.ranked_so.0 enters.ranked_so.1
+      (insert k.table.rows (rank - 1) r) refl (ap (position is_miss) (sym found_with) ∙ none))
       refl
-      (kept_is m bound new (kept_with none) ∙ ap (bench m bound) (with ∙ ap (book k.table.frame) (sym (newcomer_is m k.table rank n r enters.judged))))
+      (kept_is m bound new (kept_with none)
+      ∙ ap (bench m bound) (with ∙ ap (book k.table.frame) (sym (newcomer_is m k.table rank n r enters.judged))))
 
   -- where with the newcomer a row misses, it is refused for the first that does
   pub overloads_so : (i : ℕ) → position is_miss (kept_findings new) ≡ Some i
       → Does m (Admit rank n) (seen bound k) (seen bound k) (Refused (record { refusal = Overload; at = i + 1 }))
   overloads_so i some =
       refuses_so m (Admit rank n) (seen bound k) (record { refusal = Overload; at = i + 1 }) (kept_is m bound k keeps)
-      (overloads m k.table rank n r enters.judged enters.room enters.ranked_so.0 enters.ranked_so.1 (insert k.table.rows (rank - 1) r) refl i (ap (position is_miss) (sym found_with) ∙ some))
+      (overloads m k.table rank n r enters.judged enters.room enters.ranked_so.0 enters.ranked_so.1
+      (insert k.table.rows (rank - 1) r) refl i (ap (position is_miss) (sym found_with) ∙ some))

@@ -1,9 +1,12 @@
 -- What has passed where an admit is answered, or refused for overload.
-use Rattle.std.proofs.Common.{◌≡◌, ◌≢◌, ℕ, ◌+◌, ◌<◌, ◌≤◌, Bool, true, false, not, eqb, leb, List, [], ◌∷◌, ◌++◌, length, Some, None, Option, refl, ap, arith}
+use Rattle.std.proofs.Common.{◌≡◌, ◌≢◌, ℕ, ◌+◌, ◌<◌, ◌≤◌, Bool, true, false, not, eqb, leb, List, [], ◌∷◌, ◌++◌, length}
+use Rattle.std.proofs.Common.{Some, None, Option, refl, ap, arith}
 use Rattle.std.specs.List.{list_all, cons_option}
-use Rattle.std.proofs.lemmas.Bool.{and_parts, both_ways, not-false, not-true, eq-eqb, eqb-false, ltb-false, leb-false, leb-true}
+use Rattle.std.proofs.lemmas.Bool.{and_parts, both_ways, not-false, not-true, eq-eqb, eqb-false, ltb-false, leb-false}
+use Rattle.std.proofs.lemmas.Bool.{leb-true}
 use Rattle.rows.specs.declared.judging.Flaw.TheVariants.{Idle, Cramped, Late, Long, Off}
-use Rattle.rows.specs.declared.refusals.Refusal.TheVariants.{IdleRow, NoWindow, LateDeadline, LongPeriod, OffFrame, FullTable}
+use Rattle.rows.specs.declared.refusals.Refusal.TheVariants.{IdleRow, NoWindow, LateDeadline, LongPeriod, OffFrame}
+use Rattle.rows.specs.declared.refusals.Refusal.TheVariants.{FullTable}
 use Rattle.rows.specs.declared.tasks.Numbers.{Numbers}
 use Rattle.rows.specs.declared.tasks.Row.{Row}
 use Rattle.rows.specs.Answers.{Answer, gives, refuses, refuses_at, Check, check, checked, Passes}
@@ -23,7 +26,8 @@ is_not_of (gives x) c = true
 is_not_of (refuses n at) c = not (eqb (number c.refusal) (number n))
 
 -- what the first checks do not make is left to those after them, and they pass
-pub left_to : {A : Type 0} (cs ds : List Check) (a : Answer A) (y : A) → list_all (is_not_of a) cs ≡ true → a ≡ checked (cs ++ ds) y → Passes cs × (a ≡ checked ds y)
+pub left_to : {A : Type 0} (cs ds : List Check) (a : Answer A) (y : A) → list_all (is_not_of a) cs ≡ true
+    → a ≡ checked (cs ++ ds) y → Passes cs × (a ≡ checked ds y)
 left_to [] ds a y others answered = (refl, answered)
 left_to {A = A} (c ∷ cs) ds a y others answered =
     let parts = and_parts (is_not_of a c) (list_all (is_not_of a) cs) others in
@@ -33,9 +37,12 @@ left_to {A = A} (c ∷ cs) ds a y others answered =
     not_here (gives x) p other here = cc
     not_here (refuses n at) p other here =
         let same : c.refusal ≡ n = cc in
-        both_ways (eqb (number c.refusal) (number n)) (not-true (eqb (number c.refusal) (number n)) other) (eq-eqb (number c.refusal) (number n) (ap number same))
+        both_ways (eqb (number c.refusal) (number n)) (not-true (eqb (number c.refusal) (number n)) other)
+        (eq-eqb (number c.refusal) (number n) (ap number same))
 
-    by : (o : Option ℕ) → a ≡ refuses_at c.refusal o (checked (cs ++ ds) y) → (a ≡ checked (cs ++ ds) y → Passes cs × (a ≡ checked ds y)) → (gives (tt {0}) ≡ refuses_at c.refusal o (checked cs tt)) × (a ≡ checked ds y)
+    by : (o : Option ℕ) → a ≡ refuses_at c.refusal o (checked (cs ++ ds) y)
+        → (a ≡ checked (cs ++ ds) y → Passes cs × (a ≡ checked ds y))
+        → (gives (tt {0}) ≡ refuses_at c.refusal o (checked cs tt)) × (a ≡ checked ds y)
     by (Some p) here later = absurd (not_here a p (and_parts (is_not_of a c) (list_all (is_not_of a) cs) others).0 here)
     by None here later = later here
 

@@ -27,20 +27,25 @@ use Rattle.admission.proofs.Findings.{each_meets, all_met}
 use Rattle.admission.proofs.Steps.{step_answers, stands_before, stands_with, runs_sound, admitted}
 
 -- rows that meet by a linear tail meet by every more accurate one
-finer_meet : (k k' : ℕ) (h : FrameNumbers) (rows : List Row) → 1 ≤ k → k ≤ k' → StandOn h.ticks rows → AllPass is_met (findings_of (linear_tail k) h rows) → AllPass is_met (findings_of (linear_tail k') h rows)
+finer_meet : (k k' : ℕ) (h : FrameNumbers) (rows : List Row) → 1 ≤ k → k ≤ k' → StandOn h.ticks rows
+    → AllPass is_met (findings_of (linear_tail k) h rows) → AllPass is_met (findings_of (linear_tail k') h rows)
 finer_meet k k' h rows low order stand met =
     all_met (linear_tail k') h rows
-    (λ xs ys r split. some_earlier _ _ (finer_tails k k' h r xs low order (stands_before h.ticks rows xs (r ∷ ys) stand split)) (each_meets (linear_tail k) h rows met xs ys r split))
+    (λ xs ys r split.
+    some_earlier _ _ (finer_tails k k' h r xs low order (stands_before h.ticks rows xs (r ∷ ys) stand split))
+    (each_meets (linear_tail k) h rows met xs ys r split))
 
 -- on a book that is sound a newcomer that a linear tail admits is admitted by every more accurate one
-finer_admit : (k k' : ℕ) (b : Book) (rank : ℕ) (n : Numbers) → 1 ≤ k → k ≤ k' → StandOn b.frame.ticks b.rows → (step (linear_tail k) b (Admit rank n)).1 ≡ gives done → (step (linear_tail k') b (Admit rank n)).1 ≡ gives done
+finer_admit : (k k' : ℕ) (b : Book) (rank : ℕ) (n : Numbers) → 1 ≤ k → k ≤ k' → StandOn b.frame.ticks b.rows
+    → (step (linear_tail k) b (Admit rank n)).1 ≡ gives done → (step (linear_tail k') b (Admit rank n)).1 ≡ gives done
 finer_admit k k' b rank n low order stand admits =
     let m = linear_tail k in
     let m' = linear_tail k' in
     let rows = with_newcomer rank n b.rows in
     let passed = admitted m b rank n done done (sym admits ∙ step_answers m b (Admit rank n)) in
     let meet = finer_meet k k' b.frame rows low order (stands_with b rank n stand passed.1) passed.2 in
-    let none = All-weaker (λ f. is_met f ≡ true) (λ f. is_miss f ≡ false) (λ f. not_from_true (is_met f)) (findings_of m' b.frame rows) meet in
+    let none = All-weaker (λ f. is_met f ≡ true) (λ f. is_miss f ≡ false) (λ f. not_from_true (is_met f))
+    (findings_of m' b.frame rows) meet in
     step_answers m' b (Admit rank n)
     ∙ sym (passed_first (entry_checks b rank n) (overload_check m' b rank n ∷ []) tt tt passed.0 done)
     ∙ places_pass_on is_miss (λ i. i + 1) (findings_of m' b.frame rows) Overload (gives done) none
@@ -49,11 +54,14 @@ finer_admit k k' b rank n low order stand admits =
 pub finer_admits : FinerAdmits
 finer_admits k k' calls calls' low order same rank n admits =
     subst (λ b. (step (linear_tail k') b (Admit rank n)).1 ≡ gives done) same
-    (finer_admit k k' (book_after (linear_tail k) calls) rank n low order (runs_sound (linear_tail k) calls).stand admits)
+    (finer_admit k k' (book_after (linear_tail k) calls) rank n low order
+    (runs_sound (linear_tail k) calls).stand admits)
 
 -- of benches whose books have come to agree no row rests later by the more accurate
 pub finer_rests : FinerRests
 finer_rests k k' calls calls' low order same xs ys r split =
     let b = book_after (linear_tail k) calls in
     let stand = stands_before b.frame.ticks b.rows xs (r ∷ ys) (runs_sound (linear_tail k) calls).stand split in
-    subst (λ other. IsNoLater (row_finding (linear_tail k') other.frame r xs).rest (row_finding (linear_tail k) b.frame r xs).rest) same (finer_tails k k' b.frame r xs low order stand)
+    subst (λ other.
+    IsNoLater (row_finding (linear_tail k') other.frame r xs).rest (row_finding (linear_tail k) b.frame r xs).rest)
+    same (finer_tails k k' b.frame r xs low order stand)

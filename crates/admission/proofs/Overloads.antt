@@ -1,5 +1,6 @@
 -- What a refusal for overload names.
-use Rattle.std.proofs.Common.{◌≡◌, ℕ, suc, ◌+◌, ◌-◌, ◌<◌, true, List, [], ◌∷◌, ◌++◌, length, take, drop, get_or, Some, None, Option, sym, refl, ap, ◌∙◌, subst, arith, position}
+use Rattle.std.proofs.Common.{◌≡◌, ℕ, suc, ◌+◌, ◌-◌, ◌<◌, true, List, [], ◌∷◌, ◌++◌, length, take, drop, get_or, Some}
+use Rattle.std.proofs.Common.{None, Option, sym, refl, ap, ◌∙◌, subst, arith, position}
 use Rattle.std.specs.Option.{option_map}
 use Rattle.std.specs.List.{AllPass}
 use Rattle.std.proofs.lemmas.Bool.{not-false}
@@ -38,24 +39,36 @@ no_rest (Some t) points miss = cc
 
 module _ (m : Meaning) (h : FrameNumbers) where
   -- where a first finding is a miss, all before it are met
-  met_before : (xs ys : List Row) (r : Row) → position is_miss (findings_of m h (xs ++ r ∷ ys)) ≡ Some (length xs) → AllPass is_met (findings_of m h xs)
+  met_before : (xs ys : List Row) (r : Row) → position is_miss (findings_of m h (xs ++ r ∷ ys)) ≡ Some (length xs)
+      → AllPass is_met (findings_of m h xs)
   met_before xs ys r first = λ k d within.
       let all = findings_of m h (xs ++ r ∷ ys) in
       let there = findings_below m h xs (r ∷ ys) in
-      let before = (position-Some is_miss all (length xs) d first).2 k (omega (arith, within, length_findings_below m h [] xs)) in
-      let same = ap (λ fs. get_or fs k d) (findings_append m h [] xs (r ∷ ys)) ∙ get_or_append_left (findings_of m h xs) there d k within in
+      let before = (position-Some is_miss all (length xs) d first).2 k
+      (omega (arith, within, length_findings_below m h [] xs)) in
+      let same = ap (λ fs. get_or fs k d) (findings_append m h [] xs (r ∷ ys))
+      ∙ get_or_append_left (findings_of m h xs) there d k within in
       ap is_met (sym same) ∙ not-false (is_met (get_or all k d)) before
 
   -- where a first finding is a miss, its row misses
-  misses_there : (xs ys : List Row) (r : Row) → position is_miss (findings_of m h (xs ++ r ∷ ys)) ≡ Some (length xs) → (row_finding m h r xs).rest ≡ None
+  misses_there : (xs ys : List Row) (r : Row) → position is_miss (findings_of m h (xs ++ r ∷ ys)) ≡ Some (length xs)
+      → (row_finding m h r xs).rest ≡ None
   misses_there xs ys r first =
       let f = row_finding m h r xs in
-      no_rest f.rest f.points (ap is_miss (sym (finding_there m h xs ys r f)) ∙ (position-Some is_miss (findings_of m h (xs ++ r ∷ ys)) (length xs) f first).1)
+      no_rest f.rest f.points
+      (ap is_miss (sym (finding_there m h xs ys r f))
+      ∙ (position-Some is_miss (findings_of m h (xs ++ r ∷ ys)) (length xs) f first).1)
 
   -- the place of the first miss names a row that misses
-  names_miss : Laws m → (rows : List Row) (i : ℕ) → StandOn h.ticks rows → position is_miss (findings_of m h rows) ≡ Some i → NamesMiss m h rows (i + 1)
+  names_miss : Laws m → (rows : List Row) (i : ℕ) → StandOn h.ticks rows
+      → position is_miss (findings_of m h rows) ≡ Some i → NamesMiss m h rows (i + 1)
   names_miss laws rows i stand first =
-      let within : i < length rows = omega (arith, (position-Some is_miss (findings_of m h rows) i (record { rest = None; points = 0 }) first).0, length_findings_below m h [] rows) in
+      let within : i < length rows =
+      omega (
+        arith,
+        (position-Some is_miss (findings_of m h rows) i (record { rest = None; points = 0 }) first).0,
+        length_findings_below m h [] rows,
+      ) in
       let parts = parts_at (i + 1) rows (omega arith) (omega arith) in
       let above = take (i + 1 - 1) rows in
       let below = drop (i + 1) rows in
@@ -71,30 +84,45 @@ module _ (m : Meaning) (h : FrameNumbers) where
         rank = ap (λ n. n + 1) (sym place);
         first = met_before above below parts.0 there;
         misses = misses;
-        slow = (brackets laws h parts.0 above (stands_before h.ticks rows above (parts.0 ∷ below) stand parts.1)).misses misses;
+        slow = (brackets laws h parts.0 above (stands_before h.ticks rows above (parts.0 ∷ below) stand parts.1)).misses
+            misses;
       }
 
   -- where the check of the findings refuses, the rank told names a row that misses
-  refusal_names : Laws m → (rows : List Row) (at : ℕ) (y : Told) → StandOn h.ticks rows → refuses Overload at ≡ checked (check_each is_miss Overload (findings_of m h rows) ∷ []) y → NamesMiss m h rows at
+  refusal_names : Laws m → (rows : List Row) (at : ℕ) (y : Told) → StandOn h.ticks rows
+      → refuses Overload at ≡ checked (check_each is_miss Overload (findings_of m h rows) ∷ []) y
+      → NamesMiss m h rows at
   refusal_names laws rows at y stand refused = by (position is_miss (findings_of m h rows)) refl refused
     where
-      by : (o : Option ℕ) → position is_miss (findings_of m h rows) ≡ o → refuses Overload at ≡ refuses_at Overload (option_map (λ i. i + 1) o) (gives y) → NamesMiss m h rows at
+      by : (o : Option ℕ) → position is_miss (findings_of m h rows) ≡ o
+          → refuses Overload at ≡ refuses_at Overload (option_map (λ i. i + 1) o) (gives y) → NamesMiss m h rows at
       by None first refused = cc
-      by (Some i) first refused = let place : i + 1 ≡ at = cc in subst (NamesMiss m h rows) place (names_miss laws rows i stand first)
+      by (Some i) first refused = let place : i + 1 ≡ at = cc in
+          subst (NamesMiss m h rows) place (names_miss laws rows i stand first)
 
 -- a call that is refused for overload is an admit, and the refusal names such a row
-overload_misses : (m : Meaning) → Laws m → (b : Book) → StandOn b.frame.ticks b.rows → (c : Call) (at : ℕ) → refuses Overload at ≡ checked (checks_of m b c) (told m b c)
+overload_misses : (m : Meaning) → Laws m → (b : Book) → StandOn b.frame.ticks b.rows → (c : Call) (at : ℕ)
+    → refuses Overload at ≡ checked (checks_of m b c) (told m b c)
     → (rank : ℕ) × (n : Numbers) × (c ≡ Admit rank n) × NamesMiss m b.frame (with_newcomer rank n b.rows) at
 overload_misses m laws b stand (Admit rank n) at refused =
-    let passed = left_to (entry_checks b rank n) (overload_check m b rank n ∷ []) (refuses Overload at) (told m b (Admit rank n)) refl refused in
-    let stands = stands_with b rank n stand (enters b rank n passed.0) in
-    (rank, n, refl, refusal_names m b.frame laws (with_newcomer rank n b.rows) at (told m b (Admit rank n)) stands passed.1)
-overload_misses m laws b stand (Frame h) at refused = let end = (left_to (checks_of m b (Frame h)) [] (refuses Overload at) (told m b (Frame h)) refl refused).1 in cc
-overload_misses m laws b stand (Dismiss rank) at refused = let end = (left_to (checks_of m b (Dismiss rank)) [] (refuses Overload at) (told m b (Dismiss rank)) refl refused).1 in cc
-overload_misses m laws b stand (Inquire rank) at refused = let end = (left_to (checks_of m b (Inquire rank)) [] (refuses Overload at) (told m b (Inquire rank)) refl refused).1 in cc
+    let passed = left_to (entry_checks b rank n) (overload_check m b rank n ∷ []) (refuses Overload at)
+    (told m b (Admit rank n)) refl refused in
+    let stands = stands_with b rank n stand (enters b rank n passed.0) in (
+      rank,
+      n,
+      refl,
+      refusal_names m b.frame laws (with_newcomer rank n b.rows) at (told m b (Admit rank n)) stands passed.1,
+    )
+overload_misses m laws b stand (Frame h) at refused = let end =
+    (left_to (checks_of m b (Frame h)) [] (refuses Overload at) (told m b (Frame h)) refl refused).1 in cc
+overload_misses m laws b stand (Dismiss rank) at refused = let end =
+    (left_to (checks_of m b (Dismiss rank)) [] (refuses Overload at) (told m b (Dismiss rank)) refl refused).1 in cc
+overload_misses m laws b stand (Inquire rank) at refused = let end =
+    (left_to (checks_of m b (Inquire rank)) [] (refuses Overload at) (told m b (Inquire rank)) refl refused).1 in cc
 
 -- the answer to a call stands at its place among the answers
-pub answer_at : (m : Meaning) (before after : List Call) (c : Call) → at_rank (length before + 1) (answers_to m (before ++ c ∷ after)) ≡ Some (step m (book_after m before) c).1
+pub answer_at : (m : Meaning) (before after : List Call) (c : Call)
+    → at_rank (length before + 1) (answers_to m (before ++ c ∷ after)) ≡ Some (step m (book_after m before) c).1
 answer_at m before after c =
     let more = answers_from m (book_after m before) (c ∷ after) in
     let next : length before + 1 ≡ suc (length before) = omega arith in

@@ -2,7 +2,8 @@
 use Rattle.std.proofs.Common.{◌≡◌, ℕ, Bool, true, false, List, [], ◌∷◌, Some, None, Option, refl, sym, ap, ◌∙◌}
 use Rattle.std.specs.List.{AllByRecursion}
 use Rattle.rows.specs.declared.refusals.Refusal.{Refusal}
-use Rattle.rows.specs.declared.refusals.Refusal.TheVariants.{BadFrame, StandingRows, IdleRow, NoWindow, LateDeadline, LongPeriod, OffFrame, FullTable, NoRank}
+use Rattle.rows.specs.declared.refusals.Refusal.TheVariants.{BadFrame, StandingRows, IdleRow, NoWindow, LateDeadline}
+use Rattle.rows.specs.declared.refusals.Refusal.TheVariants.{LongPeriod, OffFrame, FullTable, NoRank}
 use Rattle.rows.specs.Answers.{Check, check, checked, refuses, refuses_at}
 use Rattle.rows.specs.Books.{Book}
 use Rattle.bounds.specs.Meaning.{Meaning}
@@ -27,7 +28,8 @@ checks_zero : (cs : List Check) → AllByRecursion TellsZero cs → (r : Refusal
 checks_zero [] zero r at x refused none = cc
 checks_zero (c ∷ cs) zero r at x refused none = by c.at refl refused (λ more. checks_zero cs zero.1 r at x more none)
   where
-    by : (o : Option ℕ) → c.at ≡ o → refuses r at ≡ refuses_at c.refusal o (checked cs x) → (refuses r at ≡ checked cs x → at ≡ 0) → at ≡ 0
+    by : (o : Option ℕ) → c.at ≡ o → refuses r at ≡ refuses_at c.refusal o (checked cs x)
+        → (refuses r at ≡ checked cs x → at ≡ 0) → at ≡ 0
     by (Some p) is here later =
         let same : r ≡ c.refusal = cc in
         let place : at ≡ p = cc in

@@ -13,7 +13,8 @@ module _ (m : Meaning) where
   book_from_append b (c ∷ xs) ys = book_from_append (step m b c).0 xs ys
 
   -- the answers to more calls go on from the book that the first have come to
-  pub answers_from_append : (b : Book) (xs ys : List Call) → answers_from m b (xs ++ ys) ≡ answers_from m b xs ++ answers_from m (book_from m b xs) ys
+  pub answers_from_append : (b : Book) (xs ys : List Call)
+      → answers_from m b (xs ++ ys) ≡ answers_from m b xs ++ answers_from m (book_from m b xs) ys
   answers_from_append b [] ys = refl
   answers_from_append b (c ∷ xs) ys = ap (λ more. (step m b c).1 ∷ more) (answers_from_append (step m b c).0 xs ys)
 
@@ -23,7 +24,8 @@ module _ (m : Meaning) where
   length_answers_from b (c ∷ calls) = ap suc (length_answers_from (step m b c).0 calls)
 
   -- the book after one more call
-  pub book_after_push : (calls : List Call) (c : Call) → book_after m (calls ++ c ∷ []) ≡ (step m (book_after m calls) c).0
+  pub book_after_push : (calls : List Call) (c : Call)
+      → book_after m (calls ++ c ∷ []) ≡ (step m (book_after m calls) c).0
   book_after_push calls c = book_from_append first_book calls (c ∷ [])
 
   -- to a list of calls there are as many answers as calls

@@ -14,10 +14,14 @@ use Rattle.admission.proofs.Findings.{each_meets}
 use Rattle.admission.proofs.Steps.{stands_before, runs_sound}
 
 -- a row that meets by a bound whose first rest lies between those in exact steps meets by both
-meets_by_both : (m : Meaning) (h : FrameNumbers) (r : Row) (above : List Row) → LiesBetween m.accuracy r above (row_finding m h r above).rest → is_some (row_finding m h r above).rest ≡ true → MeetsByBoth m h r above
-meets_by_both m h r above between met = by (row_finding m h r above).rest (exact_rest r above) refl refl met between.exact
+meets_by_both : (m : Meaning) (h : FrameNumbers) (r : Row) (above : List Row)
+    → LiesBetween m.accuracy r above (row_finding m h r above).rest → is_some (row_finding m h r above).rest ≡ true
+    → MeetsByBoth m h r above
+meets_by_both m h r above between met =
+    by (row_finding m h r above).rest (exact_rest r above) refl refl met between.exact
   where
-    by : (bounded exact : Option ℕ) → (row_finding m h r above).rest ≡ bounded → exact_rest r above ≡ exact → is_some bounded ≡ true → IsNoLater exact bounded → MeetsByBoth m h r above
+    by : (bounded exact : Option ℕ) → (row_finding m h r above).rest ≡ bounded → exact_rest r above ≡ exact
+        → is_some bounded ≡ true → IsNoLater exact bounded → MeetsByBoth m h r above
     by None exact bounds is met order = cc
     by (Some t) None bounds is met order = absurd order
     by (Some t) (Some s) bounds is met order =

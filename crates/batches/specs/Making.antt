@@ -32,4 +32,5 @@ outcome_of (Err (BadSize g)) = denies g
 
 -- what is answered to an accuracy and a size of a batch: the accuracy is checked first
 abbrev pub outcome_for : ℕ → ℕ → Outcome
-outcome_for k g = if is_accuracy k then (if is_size g then makes (parameters k g) else denies g) else refuses BadAccuracy 0
+outcome_for k g =
+    if is_accuracy k then (if is_size g then makes (parameters k g) else denies g) else refuses BadAccuracy 0

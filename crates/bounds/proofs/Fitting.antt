@@ -15,7 +15,9 @@ largest = 2 * most_parts
 -- (k + 1) / k times as much is at most twice as much
 at_most_twice : (k f x : ℕ) → 1 ≤ k → k * f ≤ (k + 1) * x → x ≤ most_parts → f ≤ largest
 at_most_twice k f x some close small =
-    ⊎_elim (λ (over : 2 * x < f). absurd (let z : ⊥ = omega (arith, mul-le k (2 * x + 1) k f (omega arith) (omega arith), mul-le 1 x k x some (omega arith)) in z))
+    ⊎_elim (λ (over : 2 * x < f).
+    absurd (let z : ⊥ =
+    omega (arith, mul-le k (2 * x + 1) k f (omega arith) (omega arith), mul-le 1 x k x some (omega arith)) in z))
     (λ (under : f ≤ 2 * x). omega arith)
     (cases_lt (2 * x) f)
 
@@ -23,7 +25,8 @@ at_most_twice k f x some close small =
 pub amount_small : {m : Meaning} → Laws m → (h : ℕ) (r : Row) (t : ℕ) → is_asked h r t ≡ true → m.amount h r t ≤ largest
 amount_small {m} laws h r t ask =
     let known = asked_tells h r t ask in
-    at_most_twice m.accuracy (m.amount h r t) (h * steps r t) laws.some_accuracy (laws.close h r t ask) (steps_fit h r t known.frame known.near)
+    at_most_twice m.accuracy (m.amount h r t) (h * steps r t) laws.some_accuracy (laws.close h r t ask)
+    (steps_fit h r t known.frame known.near)
 
 -- every amount that is asked for fits 64 bits
 pub amount_fits : {m : Meaning} → Laws m → (h : ℕ) (r : Row) (t : ℕ) → is_asked h r t ≡ true → m.amount h r t < 2 ^ 64

@@ -24,16 +24,20 @@ steps_floor m laws h r t x low u later ask =
 -- the exact steps themselves are a floor of every lawful bound
 pub own_steps : (m : Meaning) → Laws m → (h : ℕ) (r : Row) (t : ℕ) → IsFloor m h r t (own_floor exact_steps h r t)
 own_steps m laws h r t =
-    steps_floor m laws h r t (own_floor exact_steps h r t) (cond_both (leb t horizon) (h * steps r t) 0 (λ x. x ≤ h * steps r t) (λ _. omega arith) (λ _. omega arith))
+    steps_floor m laws h r t (own_floor exact_steps h r t)
+    (cond_both (leb t horizon) (h * steps r t) 0 (λ x. x ≤ h * steps r t) (λ _. omega arith) (λ _. omega arith))
 
 -- the amount of the linear tail never falls: before the tail the steps do not, nor past it the line, and no amount is
 -- above the line
-pub tail_grows : (k h : ℕ) (r : Row) (t u : ℕ) → t ≤ u → IsTrue (is_asked h r u) → (linear_tail k).amount h r t ≤ (linear_tail k).amount h r u
+pub tail_grows : (k h : ℕ) (r : Row) (t u : ℕ) → t ≤ u → IsTrue (is_asked h r u)
+    → (linear_tail k).amount h r t ≤ (linear_tail k).amount h r u
 tail_grows k h r t u later ask = elim (cases_Bool (is_before_tail k r u)) [
-  | inl before ↦ rw (earlier_before k r t u later before, before) (mul-le h (steps r t) h (steps r u) (omega arith) (steps_grow r t u later))
+  | inl before ↦ rw (earlier_before k r t u later before, before)
+      (mul-le h (steps r t) h (steps r u) (omega arith) (steps_grow r t u later))
   | inr past ↦
       let under = below_line k h r t (asked_tells h r u ask).divides in
       let ready = mul-le (t + r.jitter) r.work (u + r.jitter) r.work (omega arith) (omega arith) in
-      let line = mul-le ((t + r.jitter) * r.work) (h / r.period) ((u + r.jitter) * r.work) (h / r.period) ready (omega arith) in
+      let line = mul-le ((t + r.jitter) * r.work) (h / r.period) ((u + r.jitter) * r.work) (h / r.period) ready
+      (omega arith) in
       rw past (omega arith)
 ]

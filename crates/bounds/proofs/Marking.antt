@@ -1,10 +1,12 @@
 -- Flags that are set step by step, from the first instant on.
-use Rattle.std.proofs.Common.{◌≡◌, ℕ, ◌+◌, ◌-◌, ◌<◌, ◌≤◌, Bool, true, false, ◌||◌, List, length, slice_index_or, slice_set, inl, inr, ⊎_elim, ◌⊎◌, ◌≢◌, refl, sym, ◌∙◌, ap, subst, arith}
+use Rattle.std.proofs.Common.{◌≡◌, ℕ, ◌+◌, ◌-◌, ◌<◌, ◌≤◌, Bool, true, false, ◌||◌, List, length, slice_index_or}
+use Rattle.std.proofs.Common.{slice_set, inl, inr, ⊎_elim, ◌⊎◌, ◌≢◌, refl, sym, ◌∙◌, ap, subst, arith}
 use Rattle.std.specs.Prelude.{◌%◌, ◌&&◌, Some, None, Option, MatchOption, nat_le}
 use Rattle.std.proofs.Math.Nat.{mod_self}
 use Rattle.rows.specs.Times.{horizon, is_frame}
 use Rattle.rows.specs.Counting.{is_on_frame}
-use Rattle.std.proofs.lemmas.Bool.{cases_lt, cases_order, and_from, and_left, and_right, le-leb, lt-leb, leb-true, and_parts, eq-eqb, cond-true, cond-false}
+use Rattle.std.proofs.lemmas.Bool.{cases_lt, cases_order, and_from, and_left, and_right, le-leb, lt-leb, leb-true}
+use Rattle.std.proofs.lemmas.Bool.{and_parts, eq-eqb, cond-true, cond-false}
 use Rattle.std.proofs.lemmas.List.{length-set, get_or-set_other}
 use Rattle.std.proofs.lemmas.Grind.{get_or-set_at}
 use Rattle.rows.specs.declared.tasks.Row.{Row}
@@ -18,13 +20,15 @@ use Rattle.bounds.specs.Lemmas.Instants.{least_some, least_none, least_after}
 -- set where it was, or where the instant has p, and the others are as before
 pub record Marked (p : ℕ → Bool) (s t : ℕ) (old new : List Bool) : Type 0 where
   pub size : length new ≡ length old
-  pub done : (k : ℕ) → k < length old → s + 1 + k < t → slice_index_or new k false ≡ (slice_index_or old k false || p (s + 1 + k))
+  pub done : (k : ℕ) → k < length old → s + 1 + k < t
+      → slice_index_or new k false ≡ (slice_index_or old k false || p (s + 1 + k))
   pub rest : (k : ℕ) → k < length old → t ≤ s + 1 + k → slice_index_or new k false ≡ slice_index_or old k false
 
 module _ {p : ℕ → Bool} where
   -- before any flag is set, they are set as far as the first instant
   pub marked_start : (s : ℕ) (flags : List Bool) → Marked p s (s + 1) flags flags
-  marked_start s flags = record { size = refl; done = λ k small early. absurd (omega arith); rest = λ k small late. refl }
+  marked_start s flags =
+      record { size = refl; done = λ k small early. absurd (omega arith); rest = λ k small late. refl }
 
   -- instants without p have nothing to set
   pub marked_on : {s t : ℕ} {old new : List Bool} (u : ℕ) → Marked p s t old new
@@ -99,15 +103,19 @@ module _ (p : ℕ → Bool) (e : ℕ) where
   ]
 
   -- flags set as far as an instant t past v are set as far as the first one after v
-  pub marked_to : {s t v d : ℕ} {old new : List Bool} (u : ℕ) → Marked (up_to e p) s t old new → IsFirst p v d u → v < t → t ≤ u
+  pub marked_to : {s t v d : ℕ} {old new : List Bool} (u : ℕ) → Marked (up_to e p) s t old new → IsFirst p v d u → v < t
+      → t ≤ u
       → Marked (up_to e p) s u old new
-  marked_to u marked first past order = marked_on u marked (λ i from low high. up_to_first first i (omega arith) high) order
+  marked_to u marked first past order =
+      marked_on u marked (λ i from low high. up_to_first first i (omega arith) high) order
 
   -- flags set as far as v are as they should be, where there is no corner after v
-  pub marked_last : {s t v : ℕ} {old new : List Bool} → Marked (up_to e p) s t old new → ((i : ℕ) → v < i → i ≤ e → p i ≡ false)
+  pub marked_last : {s t v : ℕ} {old new : List Bool} → Marked (up_to e p) s t old new
+      → ((i : ℕ) → v < i → i ≤ e → p i ≡ false)
       → v < t → t ≤ s + length old + 1 → Marks (up_to e p) s old new
   marked_last {s} {old = old} marked none past order =
-      marked_all (marked_on (s + length old + 1) marked (λ i from low high. up_to_none none i (omega arith)) order) (omega arith)
+      marked_all (marked_on (s + length old + 1) marked (λ i from low high. up_to_none none i (omega arith)) order)
+      (omega arith)
 
   -- the first instant after s is the least one past any instant u before it
   pub least_past : {s d t : ℕ} (u : ℕ) → IsFirst p s d t → s ≤ u → u < t → t ≤ e → Some t ≡ least p (e - u) (u + 1)
@@ -145,7 +153,8 @@ least_same p q e d u same = read (least p (e - u) (u + 1)) (least_after p (e - u
           after = f.after;
           within = leb-true t d both.0;
           holds = both.1;
-          none = λ i low high. agree i false low (omega (arith, leb-true t d both.0)) (up_to_not p e i (f.none i low high));
+          none = λ i low high.
+              agree i false low (omega (arith, leb-true t d both.0)) (up_to_not p e i (f.none i low high));
         } in
         least_past q d u first (omega arith) f.after first.within
 
@@ -157,8 +166,10 @@ module _ (m : Meaning) (r : Row) where
   -- a row stands on the frame that is its own period: there its next corner is answered after every instant
   pub own_frame : (t : ℕ) → corner_answered m r.period r t ≡ corner_after m r t
   own_frame t =
-      let frame = and_from (nat_le 1 r.period) (nat_le r.period horizon) (le-leb 1 r.period (omega arith)) (le-leb r.period horizon (omega arith)) in
-      let on = and_from (is_frame r.period) (is_on_frame r.period r) frame (eq-eqb (r.period % r.period) 0 (mod_self r.period)) in
+      let frame = and_from (nat_le 1 r.period) (nat_le r.period horizon) (le-leb 1 r.period (omega arith))
+      (le-leb r.period horizon (omega arith)) in
+      let on = and_from (is_frame r.period) (is_on_frame r.period r) frame
+      (eq-eqb (r.period % r.period) 0 (mod_self r.period)) in
       elim (cases_lt horizon t) [
         | inl far ↦
             cond-false _ _ _ (and_right on_own_frame (nat_le t horizon) (lt-leb t horizon far))
@@ -173,8 +184,10 @@ module _ (m : Meaning) (r : Row) where
   -- on that frame the answer tells it of every instant up to the horizon
   pub own_corner : (t : ℕ) (o : Option ℕ) → o ≡ corner_answered m r.period r t → CornerTells t horizon o
   own_corner t o answer =
-      read o (subst (CornerTells t (t + (horizon - t))) (sym (answer ∙ own_frame t)) (least_after (m.is_corner r) (horizon - t) t))
+      read o (subst (CornerTells t (t + (horizon - t))) (sym (answer ∙ own_frame t))
+      (least_after (m.is_corner r) (horizon - t) t))
     where
       read : (o : Option ℕ) → CornerTells t (t + (horizon - t)) o → CornerTells t horizon o
       read None none = λ i low high. none i low (omega arith)
-      read (Some u) f = record { after = f.after; within = omega (arith, f.after, f.within); holds = f.holds; none = f.none }
+      read (Some u) f =
+          record { after = f.after; within = omega (arith, f.after, f.within); holds = f.holds; none = f.none }

@@ -1,5 +1,6 @@
 -- The kinds of bounds are listed by their numbers.
-use Rattle.std.proofs.Common.{◌≡◌, ℕ, ◌==◌, Bool, true, false, List, [], ◌∷◌, Some, find, if◌then◌else◌, refl, sym, ap, ◌∙◌}
+use Rattle.std.proofs.Common.{◌≡◌, ℕ, ◌==◌, Bool, true, false, List, [], ◌∷◌, Some, find, if◌then◌else◌, refl, sym, ap}
+use Rattle.std.proofs.Common.{◌∙◌}
 use Rattle.std.proofs.lemmas.Bool.{eqb-true}
 use Rattle.bounds.specs.declared.families.Family.{Family}
 use Rattle.bounds.specs.declared.families.Family.TheVariants.{ExactSteps, LinearTail}
@@ -16,7 +17,8 @@ found : {X : Type 0} (p : X → Bool) (xs : List X) (y : X) → find p xs ≡ So
 found p [] y is = cc
 found p (x ∷ xs) y is = by (p x) refl is (found p xs y)
   where
-    by : (b : Bool) → p x ≡ b → (if b then Some x else find p xs) ≡ Some y → (find p xs ≡ Some y → p y ≡ true) → p y ≡ true
+    by : (b : Bool) → p x ≡ b → (if b then Some x else find p xs) ≡ Some y → (find p xs ≡ Some y → p y ≡ true)
+        → p y ≡ true
     by true here is later = let same : x ≡ y = cc in ap p (sym same) ∙ here
     by false here is later = later is
 

@@ -7,7 +7,8 @@ use Rattle.rows.proofs.Rising.{at_multiple, multiple_rises, no_rise}
 use Rattle.bounds.specs.Instants.{IsFirst}
 
 -- the first rise after s is at the next multiple of the period
-pub first_rise : (r : Row) (s : ℕ) → IsFirst (is_rise r) s (s + r.period) (((s + r.jitter) / r.period + 1) * r.period - r.jitter)
+pub first_rise : (r : Row) (s : ℕ)
+    → IsFirst (is_rise r) s (s + r.period) (((s + r.jitter) / r.period + 1) * r.period - r.jitter)
 first_rise r s =
     let b = (s + r.jitter) / r.period in
     let t = (b + 1) * r.period - r.jitter in

@@ -1,5 +1,6 @@
 -- What the supplied bounds are called.
-use Rattle.std.specs.Prelude.{ℕ, Bool, true, false, not, List, [], ◌∷◌, ◌++◌, ◌==◌, Some, None, Option, codes, decimal, find, if◌then◌else◌}
+use Rattle.std.specs.Prelude.{ℕ, Bool, true, false, not, List, [], ◌∷◌, ◌++◌, ◌==◌, Some, None, Option, codes, decimal}
+use Rattle.std.specs.Prelude.{find, if◌then◌else◌}
 use Rattle.rows.specs.declared.refusals.Refusal.TheVariants.{BadAccuracy, UnknownBound}
 use Rattle.rows.specs.Answers.{Check, check}
 use Rattle.bounds.specs.declared.families.Family.{Family}
@@ -61,8 +62,14 @@ named_checks n k = checks (family_of_number n)
 
 -- a bound as a person reads it: exact steps, or linear tail of accuracy 3
 abbrev pub shown_bound : Supplied → List ℕ
-shown_bound b = if has_accuracies (supplied_plain b).0 then family_name (supplied_plain b).0 ++ (codes " of accuracy " ++ decimal (supplied_plain b).1) else family_name (supplied_plain b).0
+shown_bound b =
+    if has_accuracies (supplied_plain b).0
+    then family_name (supplied_plain b).0 ++ (codes " of accuracy " ++ decimal (supplied_plain b).1)
+    else family_name (supplied_plain b).0
 
 -- and as a file is named for it: exact, or linear-3
 abbrev pub shown_short : Supplied → List ℕ
-shown_short b = if has_accuracies (supplied_plain b).0 then family_word (supplied_plain b).0 ++ (codes "-" ++ decimal (supplied_plain b).1) else family_word (supplied_plain b).0
+shown_short b =
+    if has_accuracies (supplied_plain b).0
+    then family_word (supplied_plain b).0 ++ (codes "-" ++ decimal (supplied_plain b).1)
+    else family_word (supplied_plain b).0

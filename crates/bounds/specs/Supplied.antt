@@ -16,7 +16,8 @@ is_before_tail k r t = nat_le (t + r.jitter) ((k - 1) * r.period)
 -- the linear tail of accuracy k: exact up to its beginning, then a straight line that lies on or above the steps
 abbrev pub linear_tail : ℕ → Meaning
 linear_tail k = record {
-  amount = λ h r t. if is_before_tail k r t then h * steps r t else h * r.work + (t + r.jitter) * r.work * (h / r.period);
+  amount = λ h r t. if is_before_tail k r t then h * steps r t
+      else h * r.work + (t + r.jitter) * r.work * (h / r.period);
   is_corner = λ r t. is_rise r t && is_before_tail k r t;
   accuracy = k;
   most = k - 1;

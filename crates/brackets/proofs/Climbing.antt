@@ -1,5 +1,6 @@
 -- How much can be demanded of a processor, and when one of some speed has served it.
-use Rattle.std.proofs.Common.{◌≡◌, ℕ, ◌+◌, ◌*◌, ◌^◌, ◌<◌, ◌≤◌, false, List, length, get_or, Some, None, sym, lt_of_mul-lt-mul_right, ⊎_elim, arith}
+use Rattle.std.proofs.Common.{◌≡◌, ℕ, ◌+◌, ◌*◌, ◌^◌, ◌<◌, ◌≤◌, false, List, length, get_or, Some, None, sym}
+use Rattle.std.proofs.Common.{lt_of_mul-lt-mul_right, ⊎_elim, arith}
 use Rattle.std.proofs.lemmas.Nat.{mul-le}
 use Rattle.std.proofs.lemmas.List.Sums.{sum_by-le}
 use Rattle.std.proofs.lemmas.Bool.{cases_lt, le-leb, lt-leb}
@@ -29,7 +30,8 @@ abbrev pub most_demand : ℕ
 most_demand = most_rows * most_steps
 
 -- the demand of a row and of those above it does not pass as many times that as a table has rows
-pub demand_small : (r : Row) (above : List Row) (t : ℕ) → length above ≤ most_above → t ≤ horizon → exact_demand r above t ≤ most_demand
+pub demand_small : (r : Row) (above : List Row) (t : ℕ) → length above ≤ most_above → t ≤ horizon
+    → exact_demand r above t ≤ most_demand
 demand_small r above t few near =
     let sums = sum_by-le (λ s. steps s t) most_steps above (λ k d within. steps_small (get_or above k d) t near) in
     let rows = mul-le (length above) most_steps most_above most_steps few (omega arith) in
@@ -62,12 +64,14 @@ module _ (a b : ℕ) (r : Row) (above : List Row) where
       ⊎_elim (λ (before : i < t). none i low before)
       (λ (from : t ≤ i).
       let room = mul-le (i + 1) a (served t) a (omega arith) (omega arith) in
-      let more = mul-le b (exact_demand r above t) b (exact_demand r above i) (omega arith) (demand_grows r above t i from) in
+      let more = mul-le b (exact_demand r above t) b (exact_demand r above i) (omega arith)
+      (demand_grows r above t i from) in
       lt-leb (b * exact_demand r above i) (a * i) (omega (arith, ceiling_tight (b * exact_demand r above t) a some)))
       (cases_lt i t)
 
   -- where a row rests nowhere before t, and its demand up to t is served by t, the first rest is t
-  pub rests_first : (t : ℕ) → 1 ≤ a → 1 ≤ t → t ≤ window r → RestsNowhereBefore t → served t ≤ t → Some t ≡ rest_at_speed a b r above
+  pub rests_first : (t : ℕ) → 1 ≤ a → 1 ≤ t → t ≤ window r → RestsNowhereBefore t → served t ≤ t
+      → Some t ≡ rest_at_speed a b r above
   unfolding rest_at_speed
   rests_first t some late within none early =
       let room = mul-le (served t) a t a early (omega arith) in
@@ -75,7 +79,8 @@ module _ (a b : ℕ) (r : Row) (above : List Row) where
       record {
         after = omega arith;
         within = within;
-        holds = le-leb (b * exact_demand r above t) (a * t) (omega (arith, ceiling_covers (b * exact_demand r above t) a some));
+        holds = le-leb (b * exact_demand r above t) (a * t)
+            (omega (arith, ceiling_covers (b * exact_demand r above t) a some));
         none = λ i low high. none i (omega arith) high;
       } in
       sym (least_some (is_rest_at_speed a b r above) (window r) 0 (window r) t first (omega arith))
@@ -83,7 +88,8 @@ module _ (a b : ℕ) (r : Row) (above : List Row) where
   -- where it rests nowhere up to the window, there is none
   pub rests_never : (t : ℕ) → window r < t → RestsNowhereBefore t → None ≡ rest_at_speed a b r above
   unfolding rest_at_speed
-  rests_never t over none = sym (least_none (is_rest_at_speed a b r above) (window r) 0 (λ i low high. none i (omega arith) (omega arith)))
+  rests_never t over none =
+      sym (least_none (is_rest_at_speed a b r above) (window r) 0 (λ i low high. none i (omega arith) (omega arith)))
 
 -- what a climb rests on
 pub ruleset climbs = (nowhere_before_served, rests_first, rests_never)

@@ -1,5 +1,6 @@
 -- First rests that come no later than others.
-use Rattle.std.proofs.Common.{◌≡◌, ℕ, ◌<◌, ◌≤◌, Bool, true, false, is_some, Some, None, Option, refl, subst, ⊎_elim, MatchOption}
+use Rattle.std.proofs.Common.{◌≡◌, ℕ, ◌<◌, ◌≤◌, Bool, true, false, is_some, Some, None, Option, refl, subst, ⊎_elim}
+use Rattle.std.proofs.Common.{MatchOption}
 use Rattle.std.proofs.lemmas.Bool.{both_ways, cases_lt}
 use Rattle.bounds.specs.Instants.{least, IsFirst}
 use Rattle.bounds.specs.Lemmas.Instants.{least_up_to}
@@ -10,14 +11,17 @@ abbrev LeastTo : (ℕ → Bool) → ℕ → Option ℕ → Type 0
 LeastTo p n o = MatchOption o ((i : ℕ) → 1 ≤ i → i ≤ n → p i ≡ false) (IsFirst p 0 n)
 
 -- where p holds whenever q does, the least instant of p comes no later than that of q
-pub no_later : (p q : ℕ → Bool) (n : ℕ) → ((t : ℕ) → 1 ≤ t → t ≤ n → q t ≡ true → p t ≡ true) → IsNoLater (least p n 1) (least q n 1)
+pub no_later : (p q : ℕ → Bool) (n : ℕ) → ((t : ℕ) → 1 ≤ t → t ≤ n → q t ≡ true → p t ≡ true)
+    → IsNoLater (least p n 1) (least q n 1)
 no_later p q n implies = at (least p n 1) (least q n 1) (least_up_to p n) (least_up_to q n)
   where
     at : (a b : Option ℕ) → LeastTo p n a → LeastTo q n b → IsNoLater a b
     at a None _ _ = tt
-    at None (Some t) none first = both_ways (p t) (none t first.after first.within) (implies t first.after first.within first.holds)
+    at None (Some t) none first =
+        both_ways (p t) (none t first.after first.within) (implies t first.after first.within first.holds)
     at (Some s) (Some t) early first =
-        ⊎_elim (λ (over : t < s). absurd (both_ways (p t) (early.none t first.after over) (implies t first.after first.within first.holds)))
+        ⊎_elim (λ (over : t < s).
+        absurd (both_ways (p t) (early.none t first.after over) (implies t first.after first.within first.holds)))
         (λ (under : s ≤ t). under)
         (cases_lt t s)
 

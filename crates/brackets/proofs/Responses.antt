@@ -1,5 +1,6 @@
 -- The response time of a row is what a climb at full speed comes to; and the response times of a table, place by place.
-use Rattle.std.proofs.Common.{◌≡◌, ℕ, zero, suc, ◌+◌, ◌-◌, ◌*◌, ◌<◌, List, [], ◌∷◌, ◌++◌, length, take, get_or, Option, refl, sym, ap, ap₂, ◌∙◌, subst, leb, arith}
+use Rattle.std.proofs.Common.{◌≡◌, ℕ, zero, suc, ◌+◌, ◌-◌, ◌*◌, ◌<◌, List, [], ◌∷◌, ◌++◌, length, take, get_or, Option}
+use Rattle.std.proofs.Common.{refl, sym, ap, ap₂, ◌∙◌, subst, leb, arith}
 use Rattle.std.proofs.lemmas.List.{append_assoc, append-nil}
 use Rattle.std.proofs.Math.Path.{fun_ext}
 use Rattle.std.specs.Option.{option_map}
@@ -16,10 +17,12 @@ full_speed : (r : Row) (above : List Row) → rest_at_speed 1 1 r above ≡ exac
 unfolding rest_at_speed exact_rest
 full_speed r above =
     ap (λ p. least p (window r) 1)
-    (fun_ext (λ t. let demand : 1 * exact_demand r above t ≡ exact_demand r above t = omega arith in let at : 1 * t ≡ t = omega arith in ap₂ leb demand at))
+    (fun_ext (λ t. let demand : 1 * exact_demand r above t ≡ exact_demand r above t = omega arith in
+    let at : 1 * t ≡ t = omega arith in ap₂ leb demand at))
 
 -- with the jitter that is the response time
-pub climbed : (r : Row) (above : List Row) → option_map (λ t. t + r.jitter) (rest_at_speed 1 1 r above) ≡ response r above
+pub climbed : (r : Row) (above : List Row)
+    → option_map (λ t. t + r.jitter) (rest_at_speed 1 1 r above) ≡ response r above
 unfolding response
 climbed r above = ap (option_map (λ t. t + r.jitter)) (full_speed r above)
 
@@ -41,15 +44,18 @@ length_responses_below above [] = refl
 length_responses_below above (r ∷ rows) = ap suc (length_responses_below (above ++ r ∷ []) rows)
 
 -- the response time at a place is that of the row there, below the rows before it
-response_below_at : (above rows : List Row) (i : ℕ) (d : Option ℕ) (r : Row) → i < length rows → get_or (responses_below above rows) i d ≡ response (get_or rows i r) (above ++ take i rows)
+response_below_at : (above rows : List Row) (i : ℕ) (d : Option ℕ) (r : Row) → i < length rows
+    → get_or (responses_below above rows) i d ≡ response (get_or rows i r) (above ++ take i rows)
 response_below_at above [] i d r within = absurd (omega arith)
 response_below_at above (s ∷ rows) zero d r within = ap (response s) (sym (append-nil above))
 response_below_at above (s ∷ rows) (suc i) d r within =
-    response_below_at (above ++ s ∷ []) rows i d r (omega arith) ∙ ap (response (get_or rows i r)) (append_assoc above (s ∷ []) (take i rows))
+    response_below_at (above ++ s ∷ []) rows i d r (omega arith)
+    ∙ ap (response (get_or rows i r)) (append_assoc above (s ∷ []) (take i rows))
 
 -- so the response time of a row stands at its place
 pub response_at : (rows : List Row) (i : ℕ) (r : Row) (o : Option ℕ) → i < length rows → r ≡ get_or rows i r
     → o ≡ response r (take i rows) → o ≡ get_or (responses_of rows) (i - 0) o
 response_at rows i r o within here found =
     let all : i - 0 ≡ i = omega arith in
-    found ∙ ap (λ s. response s (take i rows)) here ∙ sym (response_below_at [] rows i o r within) ∙ ap (λ n. get_or (responses_of rows) n o) (sym all)
+    found ∙ ap (λ s. response s (take i rows)) here ∙ sym (response_below_at [] rows i o r within)
+    ∙ ap (λ n. get_or (responses_of rows) n o) (sym all)

@@ -18,7 +18,8 @@ unfolding rest_at_speed
 first_says k r above = least_up_to (is_slow_rest k r above) (window r)
 
 -- and so does every rest that it is
-pub first_slow_rest : (k : ℕ) (r : Row) (above : List Row) (o : Option ℕ) → o ≡ slow_rest k r above → IsFirstSlowRest k r above o
+pub first_slow_rest : (k : ℕ) (r : Row) (above : List Row) (o : Option ℕ) → o ≡ slow_rest k r above
+    → IsFirstSlowRest k r above o
 first_slow_rest k r above o is = subst (IsFirstSlowRest k r above) (sym is) (first_says k r above)
 
 -- it comes no earlier than the one at full speed
@@ -32,9 +33,11 @@ exact_no_later k r above =
     le-leb (exact_demand r above t) t (omega arith))
 
 -- and no earlier than by any bound of that accuracy
-pub bounds_no_later : (k : ℕ) (r : Row) (above : List Row) (o : Option ℕ) → o ≡ slow_rest k r above → BoundsAreNoLater k r above o
+pub bounds_no_later : (k : ℕ) (r : Row) (above : List Row) (o : Option ℕ) → o ≡ slow_rest k r above
+    → BoundsAreNoLater k r above o
 bounds_no_later k r above o is m h laws same stands =
-    subst (IsNoLater (row_finding m h r above).rest) (ap (λ a. slow_rest a r above) same ∙ sym is) (brackets laws h r above stands).slow
+    subst (IsNoLater (row_finding m h r above).rest) (ap (λ a. slow_rest a r above) same ∙ sym is)
+    (brackets laws h r above stands).slow
 
 -- what the answer says
 pub ruleset slow_rest_says = (first_slow_rest, exact_no_later, bounds_no_later)

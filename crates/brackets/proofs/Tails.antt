@@ -30,7 +30,10 @@ module _ (k k' : ℕ) (order : k ≤ k') (h : ℕ) (r : Row) (t : ℕ) where
 pub finer_tails : FinerIsNoLater
 unfolding first_rest
 finer_tails k k' h r above _ order stands =
-    no_later (is_rest (load (linear_tail k') h.ticks r.work above)) (is_rest (load (linear_tail k) h.ticks r.work above)) (window r)
+    no_later (is_rest (load (linear_tail k') h.ticks r.work above))
+    (is_rest (load (linear_tail k) h.ticks r.work above)) (window r)
     (λ t _ within.
-    let finer = all_asked h.ticks above t stands (window_near r t within) (λ s. (linear_tail k').amount h.ticks s t ≤ (linear_tail k).amount h.ticks s t) (λ s ask. finer_amount k k' order h.ticks s t (asked_tells h.ticks s t ask).divides) in
+    let finer = all_asked h.ticks above t stands (window_near r t within)
+    (λ s. (linear_tail k').amount h.ticks s t ≤ (linear_tail k).amount h.ticks s t)
+    (λ s ask. finer_amount k k' order h.ticks s t (asked_tells h.ticks s t ask).divides) in
     rests_by_less (linear_tail k') (linear_tail k) h.ticks r.work above t finer)

@@ -21,7 +21,8 @@ responses_of rows = responses_below [] rows
 -- of every row of the table the response time says what a response time says, and is the exact one on every frame
 abbrev pub TableResponds : List Row → Type 0
 TableResponds rows =
-    (xs ys : List Row) (r : Row) → rows ≡ xs ++ r ∷ ys → Responds r xs (response r xs) × IsExactOnFrames r xs (response r xs)
+    (xs ys : List Row) (r : Row) → rows ≡ xs ++ r ∷ ys
+    → Responds r xs (response r xs) × IsExactOnFrames r xs (response r xs)
 
 -- what is checked of so many rows whose response times are to be put into a list of so many places, in order: full
 -- table; short list

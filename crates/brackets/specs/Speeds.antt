@@ -22,4 +22,5 @@ rest_at_speed a b r above = least (is_rest_at_speed a b r above) (window r) 1
 -- row misses
 abbrev pub IsExactOnFrames : Row → List Row → Option ℕ → Type 0
 IsExactOnFrames r above o =
-    (h : FrameNumbers) → StandOn h.ticks above → o ≡ option_map (λ t. t + r.jitter) (row_finding exact_steps h r above).rest
+    (h : FrameNumbers) → StandOn h.ticks above
+    → o ≡ option_map (λ t. t + r.jitter) (row_finding exact_steps h r above).rest

@@ -1,5 +1,7 @@
 -- A row that is dismissed can be admitted back at its rank, and then the bench is as it was.
-use Rattle.std.proofs.Common.{◌≡◌, ℕ, suc, ◌+◌, ◌-◌, ◌≤◌, true, false, not, leb, List, ◌∷◌, ◌++◌, length, get_or, take, drop, Some, None, Option, Ok, Err, Result, refl, sym, ap, ◌∙◌, subst, ap₂, arith, position, OnErr}
+use Rattle.std.proofs.Common.{◌≡◌, ℕ, suc, ◌+◌, ◌-◌, ◌≤◌, true, false, not, leb, List, ◌∷◌, ◌++◌, length, get_or, take}
+use Rattle.std.proofs.Common.{drop, Some, None, Option, Ok, Err, Result, refl, sym, ap, ◌∙◌, subst, ap₂, arith}
+use Rattle.std.proofs.Common.{position, OnErr}
 use Rattle.std.specs.List.{AllPass, insert}
 use Rattle.std.specs.Option.{option_map, unwrap_or}
 use Rattle.std.specs.Result.{IsOk, is_err}
@@ -8,7 +10,8 @@ use Rattle.std.proofs.lemmas.List.{drop_at, get_or_at, take_at, length-append, l
 use Rattle.std.proofs.lemmas.List.Elements.{All-weaker}
 use Rattle.rows.specs.declared.frames.FrameNumbers.{FrameNumbers}
 use Rattle.rows.specs.declared.judging.Flaw.TheVariants.{Idle, Cramped, Late, Long, Off}
-use Rattle.rows.specs.declared.refusals.Refusal.TheVariants.{IdleRow, NoWindow, LateDeadline, LongPeriod, OffFrame, NoRank, Overload}
+use Rattle.rows.specs.declared.refusals.Refusal.TheVariants.{IdleRow, NoWindow, LateDeadline, LongPeriod, OffFrame}
+use Rattle.rows.specs.declared.refusals.Refusal.TheVariants.{NoRank, Overload}
 use Rattle.rows.specs.declared.refusals.Fault.{Fault}
 use Rattle.rows.specs.declared.tasks.Numbers.{Numbers}
 use Rattle.rows.specs.declared.tasks.Row.{Row}
@@ -41,19 +44,23 @@ use Rattle.exchanges.specs.Exchanged.{exchange_checks}
 inquire_leaves : (m : Meaning) (b : Book) (rank : ℕ) → (step m b (Inquire rank)).0 ≡ b
 inquire_leaves m b rank = by (checked (checks_of m b (Inquire rank)) (told m b (Inquire rank))) refl
   where
-    by : (a : Answer Told) → a ≡ checked (checks_of m b (Inquire rank)) (told m b (Inquire rank)) → (step m b (Inquire rank)).0 ≡ b
+    by : (a : Answer Told) → a ≡ checked (checks_of m b (Inquire rank)) (told m b (Inquire rank))
+        → (step m b (Inquire rank)).0 ≡ b
     by (gives x) given = ap (λ s. s.0) (step_given m b (Inquire rank) x given)
     by (refuses n at) refused = ap (λ s. s.0) (step_refused m b (Inquire rank) n at refused)
 
 -- a bench that is inquired is that of its bound and book
-pub kept_is : {B : Type 0} (m : Meaning) (rank : ℕ) (now : Held B) (reply : Reply) → Does m (Inquire rank) now now reply → now ≡ bench m now.bound now.book
+pub kept_is : {B : Type 0} (m : Meaning) (rank : ℕ) (now : Held B) (reply : Reply) → Does m (Inquire rank) now now reply
+    → now ≡ bench m now.bound now.book
 kept_is m rank now reply does = does.becomes ∙ ap (bench m now.bound) (inquire_leaves m now.book rank)
 
 -- the row that stands at a rank
-at_there : (rank : ℕ) (rows xs ys : List Row) (x : Row) → 1 ≤ rank → length xs ≡ rank - 1 → rows ≡ xs ++ x ∷ ys → at_rank rank rows ≡ Some x
+at_there : (rank : ℕ) (rows xs ys : List Row) (x : Row) → 1 ≤ rank → length xs ≡ rank - 1 → rows ≡ xs ++ x ∷ ys
+    → at_rank rank rows ≡ Some x
 at_there rank rows xs ys x low place split =
     let up : suc (rank - 1) ≡ rank = omega arith in
-    subst (λ n. at_rank n rows ≡ Some x) up (ap (λ rs. first_of (drop (rank - 1) rs)) split ∙ ap first_of (drop_at xs (x ∷ ys) (rank - 1) place))
+    subst (λ n. at_rank n rows ≡ Some x) up
+    (ap (λ rs. first_of (drop (rank - 1) rs)) split ∙ ap first_of (drop_at xs (x ∷ ys) (rank - 1) place))
 
 -- the row that is told of a rank stands there, between those before and after it
 pub record StandsAt (rank : ℕ) (rows : List Row) (r : Row) : Type 0 where
@@ -61,27 +68,35 @@ pub record StandsAt (rank : ℕ) (rows : List Row) (r : Row) : Type 0 where
   pub high : rank ≤ length rows
   pub split : rows ≡ take (rank - 1) rows ++ r ∷ drop rank rows
 
-pub told_stands : {B : Type 0} (m : Meaning) (rank : ℕ) (now : Held B) (r : Row) (f : Finding) → Does m (Inquire rank) now now (FoundRow r f) → StandsAt rank now.book.rows r
+pub told_stands : {B : Type 0} (m : Meaning) (rank : ℕ) (now : Held B) (r : Row) (f : Finding)
+    → Does m (Inquire rank) now now (FoundRow r f) → StandsAt rank now.book.rows r
 told_stands m rank now r f does =
     let b = now.book in
     let cs = checks_of m b (Inquire rank) in
-    let given : gives (row_found (plain r) (tells f)) ≡ checked cs (told m b (Inquire rank)) = does.replies ∙ step_answers m b (Inquire rank) in
-    let within = rank_within (length b.rows) rank (first_passes (not (is_rank (length b.rows) rank)) NoRank 0 (row_found (plain r) (tells f)) (gives (told m b (Inquire rank))) given).0 in
+    let given : gives (row_found (plain r) (tells f)) ≡ checked cs (told m b (Inquire rank)) =
+    does.replies ∙ step_answers m b (Inquire rank) in
+    let within = rank_within (length b.rows) rank
+    (first_passes (not (is_rank (length b.rows) rank)) NoRank 0 (row_found (plain r) (tells f))
+    (gives (told m b (Inquire rank))) given).0 in
     let parts = parts_at rank b.rows within.0 within.1 in
-    let there = at_there rank b.rows (take (rank - 1) b.rows) (drop rank b.rows) parts.0 within.0 (length-take-le (rank - 1) b.rows (omega (arith, within.1))) parts.1 in
+    let there = at_there rank b.rows (take (rank - 1) b.rows) (drop rank b.rows) parts.0 within.0
+    (length-take-le (rank - 1) b.rows (omega (arith, within.1))) parts.1 in
     let about = row_finding m b.frame parts.0 (take (rank - 1) b.rows) in
     let tells_so : row_found (plain r) (tells f) ≡ row_found (plain parts.0) about =
     given_is cs (row_found (plain r) (tells f)) (told m b (Inquire rank)) given
-    ∙ ap (λ o. unwrap_or (option_map (λ s. row_found (plain s) (row_finding m b.frame s (take (rank - 1) b.rows))) o) done) there in
+    ∙ ap (λ o. unwrap_or
+    (option_map (λ s. row_found (plain s) (row_finding m b.frame s (take (rank - 1) b.rows))) o) done) there in
     let numbers : plain r ≡ plain parts.0 = cc in
     record {
       low = within.0;
       high = within.1;
-      split = subst (λ s. b.rows ≡ take (rank - 1) b.rows ++ s ∷ drop rank b.rows) (sym (same_row r parts.0 numbers)) parts.1;
+      split = subst (λ s. b.rows ≡ take (rank - 1) b.rows ++ s ∷ drop rank b.rows)
+          (sym (same_row r parts.0 numbers)) parts.1;
     }
 
 -- a row on a frame has no flaw
-no_flaw : (h : FrameNumbers) (r : Row) → is_on_frame h.ticks r ≡ true → gives (plain r) ≡ checked (flaw_checks (frame_flaws h) (plain r) 0) (plain r)
+no_flaw : (h : FrameNumbers) (r : Row) → is_on_frame h.ticks r ≡ true
+    → gives (plain r) ≡ checked (flaw_checks (frame_flaws h) (plain r) 0) (plain r)
 no_flaw h r on =
     let n = plain r in
     sym (passes_on (has_flaw Idle n) IdleRow 0 _ (ne_eqb r.work 0 (λ e. omega (arith, e, r.busy)))
@@ -94,7 +109,8 @@ no_flaw h r on =
 no_miss : (fs : List Found) → AllPass is_met fs → position is_miss fs ≡ None
 no_miss fs met =
     by (position is_miss fs)
-    (places_pass_on is_miss (λ i. i) fs Overload (gives tt) (All-weaker (λ f. is_met f ≡ true) (λ f. is_miss f ≡ false) (λ f. ap not) fs met))
+    (places_pass_on is_miss (λ i. i) fs Overload (gives tt)
+    (All-weaker (λ f. is_met f ≡ true) (λ f. is_miss f ≡ false) (λ f. ap not) fs met))
   where
     by : (o : Option ℕ) → refuses_at {A = Unit {0}} Overload (option_map (λ i. i) o) (gives tt) ≡ gives tt → o ≡ None
     by None passes = refl
@@ -108,10 +124,13 @@ without_it rank b = book b.frame (without rank b.rows)
 module _ (m : Meaning) (b : Book) (rank : ℕ) (r : Row) (there : StandsAt rank b.rows r) where
   -- a row can be dismissed there
   passes : not (is_rank (length b.rows) rank) ≡ false
-  passes = ap not (and_from (leb 1 rank) (leb rank (length b.rows)) (le-leb 1 rank there.low) (le-leb rank (length b.rows) there.high))
+  passes = ap not
+      (and_from (leb 1 rank) (leb rank (length b.rows)) (le-leb 1 rank there.low)
+      (le-leb rank (length b.rows) there.high))
 
   pub dismissed : step m b (Dismiss rank) ≡ (without_it rank b, gives done)
-  dismissed = step_given m b (Dismiss rank) done (sym (passes_on (not (is_rank (length b.rows) rank)) NoRank 0 (gives done) passes))
+  dismissed = step_given m b (Dismiss rank) done
+      (sym (passes_on (not (is_rank (length b.rows) rank)) NoRank 0 (gives done) passes))
 
   -- with the row put in again, the rows are those that stood
   put_back : b.rows ≡ insert (without rank b.rows) (rank - 1) r
@@ -119,29 +138,43 @@ module _ (m : Meaning) (b : Book) (rank : ℕ) (r : Row) (there : StandsAt rank 
       let front = take (rank - 1) b.rows in
       let back = drop rank b.rows in
       let place = length-take-le (rank - 1) b.rows (omega (arith, there.high)) in
-      there.split ∙ sym (ap₂ (λ xs ys. xs ++ r ∷ ys) (take_at front back (rank - 1) place) (drop_at front back (rank - 1) place))
+      there.split ∙ sym
+      (ap₂ (λ xs ys. xs ++ r ∷ ys) (take_at front back (rank - 1) place) (drop_at front back (rank - 1) place))
 
   -- the row that is put in again stands on the frame
   on_frame : AllPass (is_on_frame b.frame.ticks) b.rows → is_on_frame b.frame.ticks r ≡ true
   on_frame on =
       let place = length-take-le (rank - 1) b.rows (omega (arith, there.high)) in
-      let is : get_or b.rows (rank - 1) r ≡ r = ap (λ rs. get_or rs (rank - 1) r) there.split ∙ get_or_at (take (rank - 1) b.rows) r (drop rank b.rows) r (rank - 1) place in
+      let is : get_or b.rows (rank - 1) r ≡ r =
+      ap (λ rs. get_or rs (rank - 1) r) there.split
+      ∙ get_or_at (take (rank - 1) b.rows) r (drop rank b.rows) r (rank - 1) place in
       ap (is_on_frame b.frame.ticks) (sym is) ∙ on (rank - 1) r (omega (arith, there.low, there.high))
 
   -- where the table is judged and all rows meet, it is admitted back, and the book is as it was
-  pub back : IsJudged b → AllPass is_met (findings_of m b.frame b.rows) → step m (without_it rank b) (Admit rank (plain r)) ≡ (b, gives done)
+  pub back : IsJudged b → AllPass is_met (findings_of m b.frame b.rows)
+      → step m (without_it rank b) (Admit rank (plain r)) ≡ (b, gives done)
   back table met =
       let lone = without_it rank b in
       let front = take (rank - 1) b.rows in
       let many : length (without rank b.rows) + 1 ≡ length b.rows =
-      omega (arith, length-append front (drop rank b.rows), length-take-le (rank - 1) b.rows (omega (arith, there.high)), length-drop rank b.rows, there.low, there.high) in
+      omega (
+        arith,
+        length-append front (drop rank b.rows),
+        length-take-le (rank - 1) b.rows (omega (arith, there.high)),
+        length-drop rank b.rows,
+        there.low,
+        there.high,
+      )
+      in
       let judged = no_flaw b.frame r (on_frame table.on) in
-      let given = admits m lone rank (plain r) r judged (omega (arith, many, table.few)) there.low (omega (arith, many, there.high)) b.rows put_back (no_miss (findings_of m b.frame b.rows) met) in
+      let given = admits m lone rank (plain r) r judged (omega (arith, many, table.few)) there.low
+      (omega (arith, many, there.high)) b.rows put_back (no_miss (findings_of m b.frame b.rows) met) in
       step_given m lone (Admit rank (plain r)) done given
       ∙ ap (λ rows. (book b.frame rows, gives done)) (newcomer_is m lone rank (plain r) r judged ∙ sym put_back)
 
 -- the refusal of a call that has nothing to tell is that of its checks
-same_refusal : (r : Result (Unit {0}) Fault) (cs : List Check) → answer_of (as_done r) ≡ checked cs done → refusal r ≡ first_refusal cs
+same_refusal : (r : Result (Unit {0}) Fault) (cs : List Check) → answer_of (as_done r) ≡ checked cs done
+    → refusal r ≡ first_refusal cs
 same_refusal (Ok u) cs given = gives_any cs done done given tt
 same_refusal (Err fault) cs refused = refuses_any cs fault.refusal fault.at done refused tt
 
@@ -151,32 +184,42 @@ done_ok (Ok u) is = refl
 done_ok (Err fault) is = cc
 
 -- a bench that was asked for a row, and from which the row has then been dismissed, by a bound of any meaning
-module _ {B : Type 0} (meaning : B → Meaning) (old alone : Held B) (rank : ℕ) (r : Row) (f : Finding) (asked : Does (meaning old.bound) (Inquire rank) old old (FoundRow r f))
+module _ {B : Type 0} (meaning : B → Meaning) (old alone : Held B) (rank : ℕ) (r : Row) (f : Finding)
+    (asked : Does (meaning old.bound) (Inquire rank) old old (FoundRow r f))
     (reply : Reply) (dismisses : Does (meaning old.bound) (Dismiss rank) old alone reply) where
   there : StandsAt rank old.book.rows r
   there = told_stands (meaning old.bound) rank old r f asked
 
   alone_is : alone ≡ bench (meaning old.bound) old.bound (without_it rank old.book)
-  alone_is = dismisses.becomes ∙ ap (λ s. bench (meaning old.bound) old.bound s.0) (dismissed (meaning old.bound) old.book rank r there)
+  alone_is = dismisses.becomes
+      ∙ ap (λ s. bench (meaning old.bound) old.bound s.0) (dismissed (meaning old.bound) old.book rank r there)
 
   -- an admission there is one on the book without the row
-  admits_there : (n : Numbers) (now new : Held B) (answer : Reply) → now ≡ alone → Does (meaning now.bound) (Admit rank n) now new answer
-      → Does (meaning old.bound) (Admit rank n) (bench (meaning old.bound) old.bound (without_it rank old.book)) new answer
-  admits_there n now new answer same does = subst (λ x. Does (meaning x.bound) (Admit rank n) x new answer) (same ∙ alone_is) does
+  admits_there : (n : Numbers) (now new : Held B) (answer : Reply) → now ≡ alone
+      → Does (meaning now.bound) (Admit rank n) now new answer
+      → Does (meaning old.bound) (Admit rank n)
+      (bench (meaning old.bound) old.bound (without_it rank old.book)) new answer
+  admits_there n now new answer same does =
+      subst (λ x. Does (meaning x.bound) (Admit rank n) x new answer) (same ∙ alone_is) does
 
   -- what an admission without the row refuses is the refusal of an exchange
-  pub answered : (n : Numbers) (new : Held B) (result : Result (Unit {0}) Fault) → Does (meaning alone.bound) (Admit rank n) alone new (as_done result)
+  pub answered : (n : Numbers) (new : Held B) (result : Result (Unit {0}) Fault)
+      → Does (meaning alone.bound) (Admit rank n) alone new (as_done result)
       → refusal result ≡ first_refusal (exchange_checks (meaning old.bound) old.book rank n)
   answered n new result does =
       let m = meaning old.bound in
       let b = old.book in
       let cs = checks_of m (without_it rank b) (Admit rank n) in
-      same_refusal result cs ((admits_there n alone new (as_done result) refl does).replies ∙ step_answers m (without_it rank b) (Admit rank n))
+      same_refusal result cs
+      ((admits_there n alone new (as_done result) refl does).replies
+      ∙ step_answers m (without_it rank b) (Admit rank n))
       ∙ sym (passes_on (not (is_rank (length b.rows) rank)) NoRank 0 (first_refusal cs) (passes m b rank r there))
 
   -- where the table was judged and all rows met, the row is admitted back, and the bench is as it was
-  module _ (table : IsJudged old.book) (met : AllPass is_met (findings_of (meaning old.bound) old.book.frame old.book.rows))
-      (now new : Held B) (same : now ≡ alone) (n : Numbers) (its : n ≡ plain r) (result : Result (Unit {0}) Fault) (does : Does (meaning now.bound) (Admit rank n) now new (as_done result)) where
+  module _ (table : IsJudged old.book)
+      (met : AllPass is_met (findings_of (meaning old.bound) old.book.frame old.book.rows))
+      (now new : Held B) (same : now ≡ alone) (n : Numbers) (its : n ≡ plain r) (result : Result (Unit {0}) Fault)
+      (does : Does (meaning now.bound) (Admit rank n) now new (as_done result)) where
     comes_back : step (meaning old.bound) (without_it rank old.book) (Admit rank n) ≡ (old.book, gives done)
     comes_back =
         ap (λ ns. step (meaning old.bound) (without_it rank old.book) (Admit rank ns)) its
@@ -188,7 +231,8 @@ module _ {B : Type 0} (meaning : B → Meaning) (old alone : Held B) (rank : ℕ
     pub as_before : new ≡ old
     as_before =
         (admits_there n now new (as_done result) same does).becomes
-        ∙ ap (λ s. bench (meaning old.bound) old.bound s.0) comes_back ∙ sym (kept_is (meaning old.bound) rank old (FoundRow r f) asked)
+        ∙ ap (λ s. bench (meaning old.bound) old.bound s.0) comes_back
+        ∙ sym (kept_is (meaning old.bound) rank old (FoundRow r f) asked)
 
 -- what holds on a refusal, where there is one
 pub where_refused : {P X : Type 0} (r : Result X Fault) → true ≡ is_err r → OnErr r P → P

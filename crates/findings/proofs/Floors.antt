@@ -1,5 +1,6 @@
 -- What is sure to be demanded, row after row, and the instants that it skips.
-use Rattle.std.proofs.Common.{◌≡◌, ℕ, ◌+◌, ◌-◌, ◌*◌, ◌^◌, ◌<◌, ◌≤◌, false, [], ◌∷◌, get_or, length, take, take_all, sum_by, ap, subst, ◌∙◌, arith}
+use Rattle.std.proofs.Common.{◌≡◌, ℕ, ◌+◌, ◌-◌, ◌*◌, ◌^◌, ◌<◌, ◌≤◌, false, [], ◌∷◌, get_or, length, take, take_all}
+use Rattle.std.proofs.Common.{sum_by, ap, subst, ◌∙◌, arith}
 use Rattle.std.proofs.lemmas.Nat.{mul-le}
 use Rattle.std.proofs.lemmas.Bool.{lt-leb}
 use Rattle.std.proofs.lemmas.Grind.{take_at_read}
@@ -34,19 +35,25 @@ floor_more l i t x d y stands small under floor u later near =
     omega (arith, more, sum_by-cons f (get_or l.above i d) [], under u later near, floor u later asked)
 
 -- before there is time for what is sure to be demanded, no instant is a rest
-pub skipped : (l : Load) → StandOn l.frame l.above → (s t x : ℕ) → IsUnder l s x → l.frame * s < x → s ≤ t → t < s + ceiling (x - l.frame * s) l.frame → t ≤ horizon → is_rest l t ≡ false
+pub skipped : (l : Load) → StandOn l.frame l.above → (s t x : ℕ) → IsUnder l s x → l.frame * s < x → s ≤ t
+    → t < s + ceiling (x - l.frame * s) l.frame → t ≤ horizon → is_rest l t ≡ false
 skipped l stands s t x under late later before near =
     let low = frame_low l.frame stands.frame in
     let tight = ceiling_tight (x - l.frame * s) l.frame low in
-    let step : l.frame * (t - s + 1) ≤ l.frame * ceiling (x - l.frame * s) l.frame = mul-le l.frame (t - s + 1) l.frame _ (omega arith) (omega arith) in
-    let split : l.frame * (s + (t - s)) ≡ l.frame * t = let e : s + (t - s) ≡ t = omega arith in ap (λ n. l.frame * n) e in
+    let step : l.frame * (t - s + 1) ≤ l.frame * ceiling (x - l.frame * s) l.frame =
+    mul-le l.frame (t - s + 1) l.frame _ (omega arith) (omega arith) in
+    let split : l.frame * (s + (t - s)) ≡ l.frame * t = let e : s + (t - s) ≡ t = omega arith in
+    ap (λ n. l.frame * n) e in
     lt-leb (demand l t) (l.frame * t) (omega (arith, under t later near, tight, step, split))
 
 -- the sum of the floors is nowhere above the demand, so it fits 64 bits
 pub under_all : (l : Load) (i t x : ℕ) → length l.above ≤ i → IsUnderPart l i t x → IsUnder l t x
-under_all l i t x all under = let whole : take i l.above ≡ l.above = take_all _ _ all in subst (λ rs. (u : ℕ) → t ≤ u → u ≤ horizon → x ≤ l.frame * l.own + sum_by (λ r. l.bound.amount l.frame r u) rs) whole under
+under_all l i t x all under = let whole : take i l.above ≡ l.above = take_all _ _ all in
+    subst (λ rs. (u : ℕ) → t ≤ u → u ≤ horizon → x ≤ l.frame * l.own + sum_by (λ r. l.bound.amount l.frame r u) rs)
+    whole under
 
-pub part_fits : (l : Load) (i t x : ℕ) → Laws l.bound → CanBeCounted most_above l.frame l.above → l.own < 2 ^ 32 → t ≤ horizon → IsUnderPart l i t x → x < 2 ^ 64
+pub part_fits : (l : Load) (i t x : ℕ) → Laws l.bound → CanBeCounted most_above l.frame l.above → l.own < 2 ^ 32
+    → t ≤ horizon → IsUnderPart l i t x → x < 2 ^ 64
 part_fits l i t x laws countable small near under =
     let f : Row → ℕ = λ r. l.bound.amount l.frame r t in
     omega (arith, under t (omega arith) near, sum_by-take-le f l.above i, demand_fits l laws countable t near small)

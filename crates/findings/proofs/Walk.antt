@@ -1,7 +1,9 @@
 -- From test point to test point: what is known on the way, and what is found at the end.
-use Rattle.std.proofs.Common.{◌≡◌, ℕ, zero, suc, ◌+◌, ◌-◌, ◌<◌, ◌≤◌, true, false, ◌&&◌, eqb, ltb, Some, None, Option, unwrap_or, sym, refl, ap, subst, ⊎_elim, arith, MatchOption}
+use Rattle.std.proofs.Common.{◌≡◌, ℕ, zero, suc, ◌+◌, ◌-◌, ◌<◌, ◌≤◌, true, false, ◌&&◌, eqb, ltb, Some, None, Option}
+use Rattle.std.proofs.Common.{unwrap_or, sym, refl, ap, subst, ⊎_elim, arith, MatchOption}
 use Rattle.std.proofs.lemmas.Option.{none-some, MatchOption-at_some}
-use Rattle.std.proofs.lemmas.Bool.{and_from, and_left, and_parts, and_right, both_ways, cases_lt, eq-eqb, lt-ltb, or_left, or_parts, and_cases}
+use Rattle.std.proofs.lemmas.Bool.{and_from, and_left, and_parts, and_right, both_ways, cases_lt, eq-eqb, lt-ltb}
+use Rattle.std.proofs.lemmas.Bool.{or_left, or_parts, and_cases}
 use Rattle.rows.specs.Times.{horizon}
 use Rattle.bounds.specs.Instants.{least, count, IsFirst, OnceThenOn}
 use Rattle.bounds.specs.Laws.{Laws}
@@ -24,13 +26,15 @@ pub record Walked (l : Load) (last late : ℕ) : Type 0 where
 pub no_bend : (l : Load) (last t : ℕ) → t < last → is_tested l last t ≡ false → is_bend l.bound l.above t ≡ false
 no_bend l last t before none =
     let inner = (or_parts (eqb t last) (ltb t last && is_bend l.bound l.above t) none).1 in
-    ⊎_elim (λ (z : ltb t last ≡ false). absurd (both_ways (ltb t last) z (lt-ltb t last before))) (λ e. e) (and_cases (ltb t last) (is_bend l.bound l.above t) inner)
+    ⊎_elim (λ (z : ltb t last ≡ false). absurd (both_ways (ltb t last) z (lt-ltb t last before))) (λ e. e)
+    (and_cases (ltb t last) (is_bend l.bound l.above t) inner)
 
 -- the walk begins at 0
 pub start : (l : Load) (last : ℕ) → Laws l.bound → StandOn l.frame l.above → 1 ≤ l.own → Walked l last 0
 start l last laws stands busy = record {
   within = omega arith;
-  none = λ i low. let e : 0 ≡ i = omega arith in subst (λ j. is_rest l j ≡ false) e (no_rest_at_start l laws stands busy);
+  none = λ i low. let e : 0 ≡ i = omega arith in
+      subst (λ j. is_rest l j ≡ false) e (no_rest_at_start l laws stands busy);
 }
 
 -- what holds of the instants up to b and of those after it holds of all
@@ -38,30 +42,39 @@ up_to_and_after : {P : Type 0} (b i : ℕ) → (i ≤ b → P) → (b < i → P)
 up_to_and_after b i old new = ⊎_elim new old (cases_lt b i)
 
 -- where neither t nor any later instant before it is a rest, the walk goes on to t
-pub skip_to : (l : Load) (last late t : ℕ) → Walked l last late → t ≤ last → NoneBetween l late t → is_rest l t ≡ false → Walked l last t
+pub skip_to : (l : Load) (last late t : ℕ) → Walked l last late → t ≤ last → NoneBetween l late t → is_rest l t ≡ false
+    → Walked l last t
 skip_to l last late t walked within none here = record {
   within = within;
-  none = λ i low. up_to_and_after late i (walked.none i) (λ new. ⊎_elim (λ before. none i new before) (λ from. let e : t ≡ i = omega arith in subst (λ j. is_rest l j ≡ false) e here) (cases_lt i t));
+  none = λ i low.
+      up_to_and_after late i (walked.none i)
+      (λ new. ⊎_elim (λ before. none i new before)
+      (λ from. let e : t ≡ i = omega arith in subst (λ j. is_rest l j ≡ false) e here) (cases_lt i t));
 }
 
 module _ (l : Load) (last : ℕ) (laws : Laws l.bound) (stands : StandOn l.frame l.above) (near : last ≤ horizon) where
   -- between the instant reached and the next test point a row that rests goes on resting
-  pub turns_once : (late point : ℕ) → Walked l last late → IsFirst (is_tested l last) late last point → OnceThenOn (is_rest l) late point
+  pub turns_once : (late point : ℕ) → Walked l last late → IsFirst (is_tested l last) late last point
+      → OnceThenOn (is_rest l) late point
   turns_once late point walked next =
       rests_on l laws stands late point (omega (arith, next.within)) (walked.none late (omega arith))
       (λ t after early. no_bend l last t (omega (arith, next.within)) (next.none t after early))
 
   -- a test point at which the row does not rest is walked past
-  pub pass : (late point : ℕ) → Walked l last late → IsFirst (is_tested l last) late last point → is_rest l point ≡ false → Walked l last point
+  pub pass : (late point : ℕ) → Walked l last late → IsFirst (is_tested l last) late last point
+      → is_rest l point ≡ false → Walked l last point
   pass late point walked next unserved =
       let once = turns_once late point walked next in
       record {
         within = next.within;
-        none = λ i low. up_to_and_after late i (walked.none i) (λ new. not_before (is_rest l) late point point once (omega arith) unserved i new low);
+        none = λ i low.
+            up_to_and_after late i (walked.none i)
+            (λ new. not_before (is_rest l) late point point once (omega arith) unserved i new low);
       }
 
 -- a test point is a rest, and the first rest after the instant reached is found
-module _ (l : Load) (last late point rest : ℕ) (walked : Walked l last late) (next : IsFirst (is_tested l last) late last point)
+module _ (l : Load) (last late point rest : ℕ) (walked : Walked l last late)
+    (next : IsFirst (is_tested l last) late last point)
     (served : is_rest l point ≡ true) (first : IsFirst (is_rest l) late point rest) where
   -- the first rest after the instant reached is the first of all
   first_of_all : IsFirst (is_rest l) 0 last rest
@@ -79,7 +92,8 @@ module _ (l : Load) (last late point rest : ℕ) (walked : Walked l last late) (
     within = next.within;
     holds = and_from (is_tested l last point) (is_rest l point) next.holds served;
     none = λ i low early.
-        up_to_and_after late i (λ old. and_right (is_tested l last i) (is_rest l i) (walked.none i old)) (λ new. and_left (is_tested l last i) (is_rest l i) (next.none i new early));
+        up_to_and_after late i (λ old. and_right (is_tested l last i) (is_rest l i) (walked.none i old))
+        (λ new. and_left (is_tested l last i) (is_rest l i) (next.none i new early));
   }
 
   -- the rest that is found is the first, and the test point the one at which testing stops
@@ -89,11 +103,13 @@ module _ (l : Load) (last late point rest : ℕ) (walked : Walked l last late) (
 
   pub stops : stop l last ≡ point
   unfolding stop
-  stops = ap (λ o. unwrap_or o last) (least_some (is_resting_point l last) last 0 last point stops_here (omega (arith, next.within)))
+  stops = ap (λ o. unwrap_or o last)
+      (least_some (is_resting_point l last) last 0 last point stops_here (omega (arith, next.within)))
 
 module _ (l : Load) (last : ℕ) where
   -- an instant that is a rest, and before which there is none, is the first rest
-  pub meets_at : (late t : ℕ) → Walked l last late → late < t → t ≤ last → NoneBetween l late t → is_rest l t ≡ true → first_rest l last ≡ Some t
+  pub meets_at : (late t : ℕ) → Walked l last late → late < t → t ≤ last → NoneBetween l late t → is_rest l t ≡ true
+      → first_rest l last ≡ Some t
   unfolding first_rest
   meets_at late t walked later within none here =
       let first : IsFirst (is_rest l) 0 last t = record {
@@ -114,8 +130,13 @@ module _ (l : Load) (last : ℕ) where
   unfolding first_rest stop
   stops_last none = at (least (is_rest l) last 1) none (least_up_to (is_rest l) last)
     where
-      at : (o : Option ℕ) → o ≡ None → MatchOption o ((i : ℕ) → 1 ≤ i → i ≤ last → is_rest l i ≡ false) (IsFirst (is_rest l) 0 last) → unwrap_or (least (is_resting_point l last) last 1) last ≡ last
-      at None _ none = ap (λ o. unwrap_or o last) (least_none (is_resting_point l last) last 0 (λ i low high. and_right (is_tested l last i) (is_rest l i) (none i low (omega arith))))
+      at : (o : Option ℕ) → o ≡ None
+          → MatchOption o ((i : ℕ) → 1 ≤ i → i ≤ last → is_rest l i ≡ false) (IsFirst (is_rest l) 0 last)
+          → unwrap_or (least (is_resting_point l last) last 1) last ≡ last
+      at None _ none =
+          ap (λ o. unwrap_or o last)
+          (least_none (is_resting_point l last) last 0
+          (λ i low high. and_right (is_tested l last i) (is_rest l i) (none i low (omega arith))))
       at (Some t) e _ = absurd (none-some t (sym e))
 
   -- what a first rest is
@@ -124,34 +145,50 @@ module _ (l : Load) (last : ℕ) where
   first_is t e = MatchOption-at_some _ _ t e (least_up_to (is_rest l) last)
 
 -- what a finding says holds of the finding that is defined
-module _ (l : Load) (last : ℕ) (laws : Laws l.bound) (stands : StandOn l.frame l.above) (busy : 1 ≤ l.own) (near : last ≤ horizon) where
+module _ (l : Load) (last : ℕ) (laws : Laws l.bound) (stands : StandOn l.frame l.above) (busy : 1 ≤ l.own)
+    (near : last ≤ horizon) where
   -- after every instant before the last there is a next test point
   next_test : (n : ℕ) → n < last → (q : ℕ) × IsFirst (is_tested l last) n last q
   next_test n before = at (least (is_tested l last) (last - n) (n + 1)) (least_after (is_tested l last) (last - n) n)
     where
-      at : (o : Option ℕ) → MatchOption o ((i : ℕ) → n < i → i ≤ n + (last - n) → is_tested l last i ≡ false) (IsFirst (is_tested l last) n (n + (last - n))) → (q : ℕ) × IsFirst (is_tested l last) n last q
-      at None none = absurd (both_ways (is_tested l last last) (none last before (omega arith)) (or_left (eqb last last) _ (eq-eqb last last refl)))
-      at (Some q) first = let e : n + (last - n) ≡ last = omega arith in (q, subst (λ e. IsFirst (is_tested l last) n e q) e first)
+      at : (o : Option ℕ)
+          → MatchOption o ((i : ℕ) → n < i → i ≤ n + (last - n) → is_tested l last i ≡ false)
+          (IsFirst (is_tested l last) n (n + (last - n))) → (q : ℕ) × IsFirst (is_tested l last) n last q
+      at None none =
+          absurd (both_ways (is_tested l last last) (none last before (omega arith))
+          (or_left (eqb last last) _ (eq-eqb last last refl)))
+      at (Some q) first = let e : n + (last - n) ≡ last = omega arith in
+          (q, subst (λ e. IsFirst (is_tested l last) n e q) e first)
 
   -- where no test point is a rest, no instant is
-  no_rest : ((i : ℕ) → 1 ≤ i → i ≤ last → is_resting_point l last i ≡ false) → (n : ℕ) → n ≤ last → (i : ℕ) → i ≤ n → is_rest l i ≡ false
+  no_rest : ((i : ℕ) → 1 ≤ i → i ≤ last → is_resting_point l last i ≡ false) → (n : ℕ) → n ≤ last → (i : ℕ) → i ≤ n
+      → is_rest l i ≡ false
   no_rest none zero within i low = (start l last laws stands busy).none i low
   no_rest none (suc n) within i low =
       let (q, next) = next_test n within in
-      let late : is_rest l q ≡ false = ⊎_elim (λ (z : is_tested l last q ≡ false). absurd (both_ways (is_tested l last q) z next.holds)) (λ e. e)
+      let late : is_rest l q ≡ false =
+      ⊎_elim (λ (z : is_tested l last q ≡ false). absurd (both_ways (is_tested l last q) z next.holds)) (λ e. e)
       (and_cases (is_tested l last q) (is_rest l q) (none q (omega (arith, next.after)) next.within)) in
       let walked : Walked l last n = record { within = omega arith; none = no_rest none n (omega arith) } in
       (pass l last laws stands near n q walked next late).none i (omega (arith, next.after))
 
   pub finding_says : Says l last (load_finding l last)
   unfolding first_rest stop points
-  finding_says = at (least (is_resting_point l last) last 1) (least (is_rest l) last 1) (least_up_to (is_resting_point l last) last) (least_up_to (is_rest l) last)
+  finding_says =
+      at (least (is_resting_point l last) last 1) (least (is_rest l) last 1)
+      (least_up_to (is_resting_point l last) last) (least_up_to (is_rest l) last)
     where
-      at : (s t : Option ℕ) → MatchOption s ((i : ℕ) → 1 ≤ i → i ≤ last → is_resting_point l last i ≡ false) (IsFirst (is_resting_point l last) 0 last)
-          → MatchOption t ((i : ℕ) → 1 ≤ i → i ≤ last → is_rest l i ≡ false) (IsFirst (is_rest l) 0 last) → Says l last (record { rest = t; points = count (is_tested l last) (unwrap_or s last) })
+      at : (s t : Option ℕ)
+          → MatchOption s ((i : ℕ) → 1 ≤ i → i ≤ last → is_resting_point l last i ≡ false)
+          (IsFirst (is_resting_point l last) 0 last)
+          → MatchOption t ((i : ℕ) → 1 ≤ i → i ≤ last → is_rest l i ≡ false) (IsFirst (is_rest l) 0 last)
+          → Says l last (record { rest = t; points = count (is_tested l last) (unwrap_or s last) })
       at None None _ none = record { rest = none; points = refl }
-      at None (Some t) none first = absurd (both_ways (is_rest l t) (no_rest none last (omega arith) t first.within) first.holds)
-      at (Some s) None first none = absurd (both_ways (is_rest l s) (none s first.after first.within) (and_parts (is_tested l last s) (is_rest l s) first.holds).1)
+      at None (Some t) none first =
+          absurd (both_ways (is_rest l t) (no_rest none last (omega arith) t first.within) first.holds)
+      at (Some s) None first none =
+          absurd (both_ways (is_rest l s) (none s first.after first.within)
+          (and_parts (is_tested l last s) (is_rest l s) first.holds).1)
       at (Some s) (Some t) stops first = record { rest = first; points = (s, stops, refl) }
 
   -- every finding that is the defined one says what that says
@@ -165,9 +202,12 @@ module _ (l : Load) (last : ℕ) (laws : Laws l.bound) (stands : StandOn l.frame
       let (q, next) = next_test (t - 1) (omega (arith, first.after, first.within)) in
       let walked : Walked l last (t - 1) = record {
         within = omega (arith, first.within);
-        none = λ i low. ⊎_elim (λ (some : 0 < i). first.none i some (omega (arith, first.after))) (λ none. (start l last laws stands busy).none i none) (cases_lt 0 i);
+        none = λ i low.
+            ⊎_elim (λ (some : 0 < i). first.none i some (omega (arith, first.after)))
+            (λ none. (start l last laws stands busy).none i none) (cases_lt 0 i);
       } in
-      let on = turns_once l last laws stands near (t - 1) q walked next t q (omega (arith, first.after)) (omega (arith, first.after, next.after)) (omega arith) first.holds in
+      let on = turns_once l last laws stands near (t - 1) q walked next t q (omega (arith, first.after))
+      (omega (arith, first.after, next.after)) (omega arith) first.holds in
       let here : IsFirst (is_rest l) (t - 1) q t = record {
         after = omega (arith, first.after);
         within = omega (arith, first.after, next.after);

@@ -10,7 +10,8 @@ is_corner_above l t = is_bend l.bound l.above t
 
 -- between t and a later instant the row at a place above has no corner
 abbrev pub IsAhead : Load → ℕ → ℕ → ℕ → Type 0
-IsAhead l k t next = (t < next) × ((r : Row) (u : ℕ) → t < u → u < next → l.bound.is_corner (slice_index_or l.above k r) u ≡ false)
+IsAhead l k t next =
+    (t < next) × ((r : Row) (u : ℕ) → t < u → u < next → l.bound.is_corner (slice_index_or l.above k r) u ≡ false)
 
 -- the list has such an instant for each row above
 pub record LookAhead (l : Load) (t : ℕ) (nexts : List ℕ) : Type 0 where

@@ -1,5 +1,6 @@
 -- Records that the default writer wrote are those that the default reader reads.
-use Rattle.std.proofs.Common.{◌≡◌, ◌∙◌, ◌+◌, ◌<◌, ℕ, zero, suc, List, [], ◌∷◌, ◌++◌, Option, None, map, refl, sym, ap, subst, drop, get_or, length, append_assoc, add-one, arith}
+use Rattle.std.proofs.Common.{◌≡◌, ◌∙◌, ◌+◌, ◌<◌, ℕ, zero, suc, List, [], ◌∷◌, ◌++◌, Option, None, map, refl, sym, ap}
+use Rattle.std.proofs.Common.{subst, drop, get_or, length, append_assoc, add-one, arith}
 use Rattle.std.specs.Io.KnownBytes.{Appends}
 use Rattle.std.proofs.lemmas.List.{at_drop_more}
 use Rattle.csv.specs.Machine.{next_record}

@@ -1,7 +1,8 @@
 -- A table as JSON: an array of objects, whose members stand in the order of the headings.
 use Rattle.std.specs.Prelude.{ℕ, suc, List, [], ◌∷◌, decimal, string_bytes, slice_get}
 use Rattle.std.specs.Option.{option_map_or}
-use Rattle.json.specs.Json.{Json, null, boolean, number, string, array, object, Items, no_items, item, Members, no_members, member}
+use Rattle.json.specs.Json.{Json, null, boolean, number, string, array, object, Items, no_items, item, Members}
+use Rattle.json.specs.Json.{no_members, member}
 use Rattle.grids.specs.Cells.{Headings, Rows}
 use Rattle.grids.specs.declared.cells.Cell.{Cell}
 use Rattle.grids.specs.declared.cells.Cell.TheVariants.{Nothing, Truth, Number, Text}

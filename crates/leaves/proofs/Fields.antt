@@ -1,5 +1,6 @@
 -- The bodies of entries are known by their fields.
-use Rattle.std.proofs.Common.{◌≡◌, ℕ, ◌^◌, ◌<◌, true, not, eqb, leb, List, ◌++◌, drop, unwrap_or, sym, refl, ap, ◌∙◌, arith, if◌then◌else◌}
+use Rattle.std.proofs.Common.{◌≡◌, ℕ, ◌^◌, ◌<◌, true, not, eqb, leb, List, ◌++◌, drop, unwrap_or, sym, refl, ap, ◌∙◌}
+use Rattle.std.proofs.Common.{arith, if◌then◌else◌}
 use Rattle.std.proofs.lemmas.Nat.{from_be_bytes-to_be_bytes_4}
 use Rattle.std.proofs.lemmas.Bool.{and_parts, cond-false, leb-true, ne_eqb, not-false, or_parts}
 use Rattle.rows.specs.declared.tasks.Row.{Row}
@@ -21,7 +22,8 @@ use Rattle.leaves.proofs.SameHeading.{frame_near, same_heading}
 use Rattle.leaves.specs.Fields.{heading_fields, row_fields, finding_fields}
 
 -- the fields of a body are what it was made of
-pub heading_again : (h : Heading) (xs : List ℕ) → heading_fields (heading_body (heading_plain h) ++ xs) ≡ heading_plain h
+pub heading_again : (h : Heading) (xs : List ℕ)
+    → heading_fields (heading_body (heading_plain h) ++ xs) ≡ heading_plain h
 heading_again h xs =
     let frame = from_be_bytes-to_be_bytes_4 h.frame.ticks (omega (arith, frame_near h)) in
     λ i. record { frame = frame_of (frame i); bound = (bound_numbers h.bound).0; accuracy = (bound_numbers h.bound).1 }
@@ -38,14 +40,16 @@ row_again r xs =
 verdict_of : ℕ → Verdict
 verdict_of t = if eqb t 0 then Misses else Meets t
 
-verdict_again : (v : Verdict) (xs : List ℕ) → is_in_range (verdict_rest v) ≡ true → verdict_of (number_at 0 (four (unwrap_or (verdict_rest v) 0) ++ xs)) ≡ v
+verdict_again : (v : Verdict) (xs : List ℕ) → is_in_range (verdict_rest v) ≡ true
+    → verdict_of (number_at 0 (four (unwrap_or (verdict_rest v) 0) ++ xs)) ≡ v
 unfolding verdict_of
 verdict_again Misses xs fits = refl
 verdict_again (Meets t) xs fits =
     let parts = and_parts (leb 1 t) (leb t horizon) fits in
     let low = leb-true 1 t parts.0 in
     let high = leb-true t horizon parts.1 in
-    ap verdict_of (from_be_bytes-to_be_bytes_4 t (omega arith)) ∙ cond-false (eqb t 0) Misses (Meets t) (ne_eqb t 0 (λ e. omega arith))
+    ap verdict_of (from_be_bytes-to_be_bytes_4 t (omega arith))
+    ∙ cond-false (eqb t 0) Misses (Meets t) (ne_eqb t 0 (λ e. omega arith))
 
 pub finding_again : (f : Finding) (xs : List ℕ) → IsFilable f → finding_fields (finding_body (tells f) ++ xs) ≡ f
 unfolding verdict_of
@@ -56,14 +60,26 @@ finding_again f xs filable =
     λ i. record { verdict = verdict i; points = points i }
 
 -- bodies that begin the same bytes are the same, and so is what follows them
-pub heading_once : (g h : Heading) (xs ys : List ℕ) → heading_body (heading_plain g) ++ xs ≡ heading_body (heading_plain h) ++ ys → (g ≡ h) × (xs ≡ ys)
-heading_once g h xs ys same = (same_heading g h (sym (heading_again g xs) ∙ ap heading_fields same ∙ heading_again h ys), ap (drop heading_size) same)
+pub heading_once : (g h : Heading) (xs ys : List ℕ)
+    → heading_body (heading_plain g) ++ xs ≡ heading_body (heading_plain h) ++ ys → (g ≡ h) × (xs ≡ ys)
+heading_once g h xs ys same = (
+  same_heading g h (sym (heading_again g xs) ∙ ap heading_fields same ∙ heading_again h ys),
+  ap (drop heading_size) same,
+)
 
 pub row_once : (r s : Row) (xs ys : List ℕ) → row_body (plain r) ++ xs ≡ row_body (plain s) ++ ys → (r ≡ s) × (xs ≡ ys)
-row_once r s xs ys same = (same_row r s (sym (row_again r xs) ∙ ap row_fields same ∙ row_again s ys), ap (drop row_size) same)
+row_once r s xs ys same =
+    (same_row r s (sym (row_again r xs) ∙ ap row_fields same ∙ row_again s ys), ap (drop row_size) same)
 
-pub finding_once : (f g : Finding) (xs ys : List ℕ) → IsFilable f → IsFilable g → finding_body (tells f) ++ xs ≡ finding_body (tells g) ++ ys → (f ≡ g) × (xs ≡ ys)
-finding_once f g xs ys good fair same = (sym (finding_again f xs good) ∙ ap finding_fields same ∙ finding_again g ys fair, ap (drop finding_size) same)
+pub finding_once : (f g : Finding) (xs ys : List ℕ) → IsFilable f → IsFilable g
+    → finding_body (tells f) ++ xs ≡ finding_body (tells g) ++ ys → (f ≡ g) × (xs ≡ ys)
+finding_once f g xs ys good fair same =
+    (sym (finding_again f xs good) ∙ ap finding_fields same ∙ finding_again g ys fair, ap (drop finding_size) same)
 
-pub number_once : (m n : ℕ) (xs ys : List ℕ) → m < 2 ^ 32 → n < 2 ^ 32 → four m ++ xs ≡ four n ++ ys → (m ≡ n) × (xs ≡ ys)
-number_once m n xs ys small few same = (sym (from_be_bytes-to_be_bytes_4 m small) ∙ ap (number_at 0) same ∙ from_be_bytes-to_be_bytes_4 n few, ap (drop end_size) same)
+pub number_once : (m n : ℕ) (xs ys : List ℕ) → m < 2 ^ 32 → n < 2 ^ 32 → four m ++ xs ≡ four n ++ ys
+    → (m ≡ n) × (xs ≡ ys)
+number_once m n xs ys small few same = (
+  sym (from_be_bytes-to_be_bytes_4 m small) ∙ ap (number_at 0) same
+      ∙ from_be_bytes-to_be_bytes_4 n few,
+  ap (drop end_size) same,
+)

@@ -1,10 +1,12 @@
 -- What can be filed passes its checks, and what passes can be filed.
-use Rattle.std.proofs.Common.{◌≡◌, ℕ, ◌+◌, ◌%◌, true, not, eqb, List, [], ◌∷◌, Some, None, Option, refl, sym, ap, ◌∙◌, arith}
+use Rattle.std.proofs.Common.{◌≡◌, ℕ, ◌+◌, ◌%◌, true, not, eqb, List, [], ◌∷◌, Some, None, Option, refl, sym, ap, ◌∙◌}
+use Rattle.std.proofs.Common.{arith}
 use Rattle.std.specs.Option.{option_map}
 use Rattle.std.proofs.lemmas.Bool.{and_from, le-leb, le-ltb, ne_eqb, not-false, not_from_true}
 use Rattle.rows.specs.declared.frames.FrameNumbers.{FrameNumbers}
 use Rattle.rows.specs.declared.judging.Flaw.TheVariants.{Idle, Cramped, Late, Long, Off}
-use Rattle.rows.specs.declared.refusals.Refusal.TheVariants.{BadFrame, BadAccuracy, IdleRow, NoWindow, LateDeadline, LongPeriod, OffFrame}
+use Rattle.rows.specs.declared.refusals.Refusal.TheVariants.{BadFrame, BadAccuracy, IdleRow, NoWindow, LateDeadline}
+use Rattle.rows.specs.declared.refusals.Refusal.TheVariants.{LongPeriod, OffFrame}
 use Rattle.rows.specs.declared.tasks.Numbers.{Numbers}
 use Rattle.rows.specs.declared.tasks.Row.{Row}
 use Rattle.rows.specs.Answers.{Check, checked, first_refusal, gives, Passes, refuses_at}
@@ -37,13 +39,19 @@ framed h is = passes_on (not (is_frame h.ticks)) BadFrame 0 _ (not_from_true (is
 -- the numbers of a heading pass their checks
 pub heading_passes : (h : Heading) (at : ℕ) → first_refusal (heading_checks (heading_plain h) at) ≡ gives tt
 heading_passes h at =
-    sym (passed_first (told_at at (frame_checks h.frame)) (bound_checks (heading_plain h) at) tt tt (all_pass at (frame_checks h.frame) (sym (framed h.frame h.framed))) tt) ∙ named h.bound
+    sym (passed_first (told_at at (frame_checks h.frame)) (bound_checks (heading_plain h) at) tt tt
+    (all_pass at (frame_checks h.frame) (sym (framed h.frame h.framed))) tt) ∙ named h.bound
   where
     fine : (b : Supplied) → first_refusal (named_checks (bound_numbers b).0 (bound_numbers b).1) ≡ gives tt
     fine exact = refl
-    fine (tail t) = passes_on (not (is_accuracy t.accuracy)) BadAccuracy 0 _ (not_from_true _ (and_from _ _ (le-leb 1 t.accuracy t.low) (le-leb t.accuracy finest t.high)))
+    fine (tail t) =
+        passes_on (not (is_accuracy t.accuracy)) BadAccuracy 0 _
+        (not_from_true _ (and_from _ _ (le-leb 1 t.accuracy t.low) (le-leb t.accuracy finest t.high)))
 
-    named : (b : Supplied) → first_refusal (bound_checks (record { frame = h.frame; bound = (bound_numbers b).0; accuracy = (bound_numbers b).1 }) at) ≡ gives tt
+    named : (b : Supplied)
+        → first_refusal
+        (bound_checks (record { frame = h.frame; bound = (bound_numbers b).0; accuracy = (bound_numbers b).1 }) at)
+        ≡ gives tt
     named b = sym (all_pass at (named_checks (bound_numbers b).0 (bound_numbers b).1) (sym (fine b)))
 
 -- the numbers of a row pass their checks
@@ -56,14 +64,17 @@ numbers_pass r at =
     rw (busy, roomy, timely, near)
 
 -- on the frame too
-pub row_passes : (h : FrameNumbers) (r : Row) (at : ℕ) → is_on_frame h.ticks r ≡ true → first_refusal (flaw_checks (frame_flaws h) (plain r) at) ≡ gives tt
+pub row_passes : (h : FrameNumbers) (r : Row) (at : ℕ) → is_on_frame h.ticks r ≡ true
+    → first_refusal (flaw_checks (frame_flaws h) (plain r) at) ≡ gives tt
 row_passes h r at on =
     let off = not_from_true (eqb (h.ticks % r.period) 0) on in
-    sym (passed_first (flaw_checks row_flaws (plain r) at) (flaw_check (plain r) at (Off h) ∷ []) tt tt (sym (numbers_pass r at)) tt)
+    sym (passed_first (flaw_checks row_flaws (plain r) at) (flaw_check (plain r) at (Off h) ∷ []) tt tt
+    (sym (numbers_pass r at)) tt)
     ∙ passes_on (has_flaw (Off h) (plain r)) OffFrame at (gives tt) off
 
 -- a row that was judged on a frame stands on it
-pub judged_on : (h : FrameNumbers) (at : ℕ) (r : Row) (n : Numbers) → gives (plain r) ≡ checked (flaw_checks (frame_flaws h) n at) n → is_on_frame h.ticks r ≡ true
+pub judged_on : (h : FrameNumbers) (at : ℕ) (r : Row) (n : Numbers)
+    → gives (plain r) ≡ checked (flaw_checks (frame_flaws h) n at) n → is_on_frame h.ticks r ≡ true
 judged_on h at r n given =
     let same = given_is (flaw_checks (frame_flaws h) n at) (plain r) n given in
     let busy = first_passes (has_flaw Idle n) IdleRow at (plain r) _ given in

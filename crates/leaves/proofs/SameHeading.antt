@@ -15,14 +15,16 @@ use Rattle.leaves.specs.Headings.{heading_plain}
 
 -- the frame of a heading ends at the horizon
 pub frame_near : (h : Heading) → h.frame.ticks ≤ horizon
-frame_near h = leb-true h.frame.ticks horizon (and_parts (leb 1 h.frame.ticks) (leb h.frame.ticks horizon) h.framed.ticks).1
+frame_near h =
+    leb-true h.frame.ticks horizon (and_parts (leb 1 h.frame.ticks) (leb h.frame.ticks horizon) h.framed.ticks).1
 
 -- there is one proof that numbers are a frame
 frame_once : (n : FrameNumbers) (a b : IsFrame n) → a ≡ b
 frame_once n a b = λ i. record { ticks = Bool-set _ _ a.ticks b.ticks i }
 
 -- a bound is known by what a heading tells of it
-same_bound : (a b : Supplied) → (bound_numbers a).0 ≡ (bound_numbers b).0 → (bound_numbers a).1 ≡ (bound_numbers b).1 → a ≡ b
+same_bound : (a b : Supplied) → (bound_numbers a).0 ≡ (bound_numbers b).0 → (bound_numbers a).1 ≡ (bound_numbers b).1
+    → a ≡ b
 same_bound exact exact number accuracy = refl
 same_bound exact (tail t) number accuracy = absurd (omega arith)
 same_bound (tail s) exact number accuracy = absurd (omega arith)

@@ -7,7 +7,8 @@ use Rattle.rows.specs.Times.{most_rows}
 use Rattle.rows.specs.declared.verdicts.Finding.{Finding}
 use Rattle.leaves.specs.declared.entries.Heading.{Heading}
 use Rattle.leaves.specs.declared.entries.Entry.{Entry}
-use Rattle.leaves.specs.declared.entries.Entry.TheVariants.{Heading as heading, Row as row, Finding as finding, End as end}
+use Rattle.leaves.specs.declared.entries.Entry.TheVariants.{Heading as heading, Row as row, Finding as finding}
+use Rattle.leaves.specs.declared.entries.Entry.TheVariants.{End as end}
 use Rattle.leaves.specs.Judging.{IsFilable}
 use Rattle.leaves.specs.Entries.{entry_bytes}
 

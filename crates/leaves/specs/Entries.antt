@@ -6,7 +6,8 @@ use Rattle.rows.specs.Judging.{plain}
 use Rattle.rows.specs.Found.{Found, tells}
 use Rattle.leaves.specs.declared.entries.HeadingNumbers.{HeadingNumbers}
 use Rattle.leaves.specs.declared.entries.Entry.{Entry}
-use Rattle.leaves.specs.declared.entries.Entry.TheVariants.{Heading as heading, Row as row, Finding as finding, End as end}
+use Rattle.leaves.specs.declared.entries.Entry.TheVariants.{Heading as heading, Row as row, Finding as finding}
+use Rattle.leaves.specs.declared.entries.Entry.TheVariants.{End as end}
 use Rattle.leaves.specs.Bytes.{four}
 use Rattle.leaves.specs.Headings.{heading_plain}
 

@@ -1,5 +1,6 @@
 -- Which findings can be filed.
-use Rattle.std.specs.Prelude.{◌≡◌, ℕ, ◌^◌, ◌<◌, Bool, true, false, not, ◌&&◌, ◌||◌, List, [], ◌∷◌, Some, None, Option, ◌==◌, nat_le}
+use Rattle.std.specs.Prelude.{◌≡◌, ℕ, ◌^◌, ◌<◌, Bool, true, false, not, ◌&&◌, ◌||◌, List, [], ◌∷◌, Some, None, Option}
+use Rattle.std.specs.Prelude.{◌==◌, nat_le}
 use Rattle.rows.specs.declared.refusals.Refusal.TheVariants.{BadFinding}
 use Rattle.rows.specs.Answers.{Check, check}
 use Rattle.rows.specs.Times.{horizon}

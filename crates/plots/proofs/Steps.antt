@@ -11,4 +11,5 @@ many_long span step q many =
 
 -- ten times a power of ten is the next one
 pub ten_more : (power n : ℕ) → power ≡ 10 ^ n → power * 10 ≡ 10 ^ (n + 1)
-ten_more power n e = let next : n + 1 ≡ suc n = omega arith in ap (λ p. p * 10) e ∙ sym (ap (λ k. 10 ^ k) next ∙ pow-suc 10 n)
+ten_more power n e = let next : n + 1 ≡ suc n = omega arith in
+    ap (λ p. p * 10) e ∙ sym (ap (λ k. 10 ^ k) next ∙ pow-suc 10 n)

@@ -18,7 +18,8 @@ pub count_next : (p : ℕ → Bool) (s e t n : ℕ) → IsFirst p s e t → n �
 count_next p s e t n first counted = let more = count_first p s e t first in omega arith
 
 -- 0 is none, where the window is not empty
-pub none_at_start : (m : Meaning) (above : List Row) (last t : ℕ) → Laws m → 1 ≤ last → t < 1 → is_test_point m above last t ≡ false
+pub none_at_start : (m : Meaning) (above : List Row) (last t : ℕ) → Laws m → 1 ≤ last → t < 1
+    → is_test_point m above last t ≡ false
 none_at_start m above last t laws some start =
     let none = list_any_none (λ r. m.is_corner r 0) above (λ k d few. laws.starts (slice_index_or above k d)) in
     let zero : t ≡ 0 = omega (arith, start) in

@@ -1,5 +1,6 @@
 -- When the steps of a row rise, and how they run between two rises.
-use Rattle.std.proofs.Common.{◌≡◌, ℕ, ◌+◌, ◌*◌, ◌/◌, ◌%◌, ◌<◌, ◌≤◌, true, false, eqb, leb, ap, ⊎_elim, lt_of_mul-lt-mul_right, arith}
+use Rattle.std.proofs.Common.{◌≡◌, ℕ, ◌+◌, ◌*◌, ◌/◌, ◌%◌, ◌<◌, ◌≤◌, true, false, eqb, leb, ap, ⊎_elim}
+use Rattle.std.proofs.Common.{lt_of_mul-lt-mul_right, arith}
 use Rattle.std.proofs.Math.Nat.{mul-mod_left}
 use Rattle.std.proofs.lemmas.Nat.{div-add-mod', mul-le}
 use Rattle.std.proofs.lemmas.Bool.{and_parts, and_from, leb-true, le-leb, eqb-true, eq-eqb, cases_Bool, both_ways}
@@ -15,18 +16,23 @@ module _ (r : Row) where
       let parts = and_parts (leb 1 t) (eqb ((t + r.jitter) % r.period) 0) rise in
       let late = leb-true 1 t parts.0 in
       let multiple : t + r.jitter ≡ (t + r.jitter) / r.period * r.period =
-      omega (arith, div-add-mod' (t + r.jitter) r.period, eqb-true ((t + r.jitter) % r.period) 0 parts.1) in
-      ((t + r.jitter) / r.period, lt_of_mul-lt-mul_right r.period {m = 0} {n = (t + r.jitter) / r.period} (omega arith), multiple)
+      omega (arith, div-add-mod' (t + r.jitter) r.period, eqb-true ((t + r.jitter) % r.period) 0 parts.1) in (
+        (t + r.jitter) / r.period,
+        lt_of_mul-lt-mul_right r.period {m = 0} {n = (t + r.jitter) / r.period} (omega arith),
+        multiple,
+      )
 
   -- every instant b × period − jitter is a rise
   pub multiple_rises : (t b : ℕ) → 1 ≤ b → t + r.jitter ≡ b * r.period → is_rise r t ≡ true
   multiple_rises t b some multiple =
       let room = mul-le 1 r.period b r.period some (omega arith) in
-      and_from (leb 1 t) (eqb ((t + r.jitter) % r.period) 0) (le-leb 1 t (omega arith)) (eq-eqb ((t + r.jitter) % r.period) 0 (rw (multiple, mul-mod_left)))
+      and_from (leb 1 t) (eqb ((t + r.jitter) % r.period) 0) (le-leb 1 t (omega arith))
+      (eq-eqb ((t + r.jitter) % r.period) 0 (rw (multiple, mul-mod_left)))
 
   -- there is no rise strictly between two neighbouring multiples
   pub no_rise : (t b : ℕ) → b * r.period < t + r.jitter → t + r.jitter < (b + 1) * r.period → is_rise r t ≡ false
-  no_rise t b low high = ⊎_elim (λ rise. absurd (between (at_multiple t rise))) (λ none. none) (cases_Bool (is_rise r t))
+  no_rise t b low high =
+      ⊎_elim (λ rise. absurd (between (at_multiple t rise))) (λ none. none) (cases_Bool (is_rise r t))
     where
       between : (n : ℕ) × (1 ≤ n) × (t + r.jitter ≡ n * r.period) → ⊥
       between (n, some, multiple) =
@@ -36,7 +42,9 @@ module _ (r : Row) where
 
   -- steps never fall
   pub steps_grow : (s t : ℕ) → s ≤ t → steps r s ≤ steps r t
-  steps_grow s t order = mul-le r.work _ r.work _ (omega arith) (ceiling_grows (s + r.jitter) (t + r.jitter) r.period (omega arith) (omega arith))
+  steps_grow s t order =
+      mul-le r.work _ r.work _ (omega arith)
+      (ceiling_grows (s + r.jitter) (t + r.jitter) r.period (omega arith) (omega arith))
 
   -- where they do not rise, they stay
   pub steps_stay : (t : ℕ) → 1 ≤ t → is_rise r t ≡ false → steps r (t + 1) ≡ steps r t
@@ -46,7 +54,8 @@ module _ (r : Row) where
       let covers = ceiling_covers (t + r.jitter) r.period some in
       let tight = ceiling_tight (t + r.jitter) r.period some in
       let more = lt_of_mul-lt-mul_right r.period {m = 0} {n = jobs} (omega arith) in
-      let apart : t + r.jitter ≡ jobs * r.period → ⊥ = λ multiple. both_ways (is_rise r t) none (multiple_rises t jobs more multiple) in
+      let apart : t + r.jitter ≡ jobs * r.period
+      → ⊥ = λ multiple. both_ways (is_rise r t) none (multiple_rises t jobs more multiple) in
       ap (λ n. r.work * n) (ceiling_is (t + 1 + r.jitter) r.period jobs some (omega arith) (omega arith))
 
   -- where they rise, they grow by the work of one job

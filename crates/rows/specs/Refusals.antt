@@ -1,7 +1,11 @@
 -- The refusals by their numbers and words.
 use Rattle.std.specs.Prelude.{ℕ, List, codes}
 use Rattle.rows.specs.declared.refusals.Refusal.{Refusal}
-use Rattle.rows.specs.declared.refusals.Refusal.TheVariants.{BadFrame, StandingRows, BadAccuracy, IdleRow, NoWindow, LateDeadline, LongPeriod, OffFrame, FullTable, NoRank, Overload, ShortList, CutLeaf, StrangeLetter, OutOfTurn, Miscount, BadFinding, LooseBytes, ShortBuffer, UnknownBound}
+use Rattle.rows.specs.declared.refusals.Refusal.TheVariants.{BadFrame, StandingRows, BadAccuracy, IdleRow, NoWindow}
+use Rattle.rows.specs.declared.refusals.Refusal.TheVariants.{LateDeadline, LongPeriod, OffFrame, FullTable, NoRank}
+use Rattle.rows.specs.declared.refusals.Refusal.TheVariants.{Overload, ShortList, CutLeaf, StrangeLetter, OutOfTurn}
+use Rattle.rows.specs.declared.refusals.Refusal.TheVariants.{Miscount, BadFinding, LooseBytes, ShortBuffer}
+use Rattle.rows.specs.declared.refusals.Refusal.TheVariants.{UnknownBound}
 
 -- the number of a refusal
 abbrev pub number : Refusal → ℕ

@@ -1,7 +1,10 @@
 -- The first bytes decide: what follows them changes no answer.
-use Rattle.std.proofs.Common.{◌≡◌, ℕ, ◌+◌, ◌<◌, ◌≤◌, ◌⊎◌, inl, inr, Bool, true, false, eqb, leb, ◌||◌, List, [], ◌∷◌, ◌++◌, map, length, take, drop, sym, refl, ap, ◌∙◌, subst, ⊎_elim, Some, None, if◌then◌else◌, arith}
+use Rattle.std.proofs.Common.{◌≡◌, ℕ, ◌+◌, ◌<◌, ◌≤◌, ◌⊎◌, inl, inr, Bool, true, false, eqb, leb, ◌||◌, List, [], ◌∷◌}
+use Rattle.std.proofs.Common.{◌++◌, map, length, take, drop, sym, refl, ap, ◌∙◌, subst, ⊎_elim, Some, None}
+use Rattle.std.proofs.Common.{if◌then◌else◌, arith}
 use Rattle.std.proofs.lemmas.Bool.{cases_lt, eqb-true, le-leb}
-use Rattle.std.proofs.lemmas.List.{append_assoc, get_or_append_left, length-append, length-take-le, take-append-drop, take_all}
+use Rattle.std.proofs.lemmas.List.{append_assoc, get_or_append_left, length-append, length-take-le, take-append-drop}
+use Rattle.std.proofs.lemmas.List.{take_all}
 use Rattle.rows.specs.declared.refusals.Refusal.{Refusal}
 use Rattle.rows.specs.declared.refusals.Refusal.TheVariants.{FullTable}
 use Rattle.rows.specs.Answers.{Answer, gives, refuses, refuses_at, first_refusal}
@@ -51,13 +54,15 @@ module _ (body more : List ℕ) where
       λ i. record { work = work i; deadline = deadline i; period = period i; jitter = jitter i }
 
   -- what is checked of it is the same too
-  heading_checks_stay : (at : ℕ) → heading_size ≤ length body → first_refusal (heading_entry_checks at (body ++ more)) ≡ first_refusal (heading_entry_checks at body)
+  heading_checks_stay : (at : ℕ) → heading_size ≤ length body
+      → first_refusal (heading_entry_checks at (body ++ more)) ≡ first_refusal (heading_entry_checks at body)
   heading_checks_stay at whole =
       uncut heading_size at (body ++ more) _ (omega (arith, length-append body more))
       ∙ ap (λ n. first_refusal (heading_checks n at)) (heading_stays whole)
       ∙ sym (uncut heading_size at body _ whole)
 
-  row_checks_stay : (h : FrameNumbers) (n at : ℕ) → row_size ≤ length body → first_refusal (row_entry_checks h n at (body ++ more)) ≡ first_refusal (row_entry_checks h n at body)
+  row_checks_stay : (h : FrameNumbers) (n at : ℕ) → row_size ≤ length body
+      → first_refusal (row_entry_checks h n at (body ++ more)) ≡ first_refusal (row_entry_checks h n at body)
   row_checks_stay h n at whole =
       ap (refuses_at FullTable (if leb most_rows n then Some at else None))
       (uncut row_size at (body ++ more) _ (omega (arith, length-append body more))
@@ -65,18 +70,24 @@ module _ (body more : List ℕ) where
       ∙ sym (uncut row_size at body _ whole))
 
 -- before the heading, what follows the first bytes changes nothing
-opening_stays : (k : ℕ) (body more : List ℕ) → heading_size ≤ length body → first_refusal (next_checks Opening 0 (k ∷ (body ++ more))) ≡ first_refusal (next_checks Opening 0 (k ∷ body))
+opening_stays : (k : ℕ) (body more : List ℕ) → heading_size ≤ length body
+    → first_refusal (next_checks Opening 0 (k ∷ (body ++ more))) ≡ first_refusal (next_checks Opening 0 (k ∷ body))
 opening_stays k body more whole = at (eqb k letter_F) refl
   where
-    at : (b : Bool) → eqb k letter_F ≡ b → first_refusal (next_checks Opening 0 (k ∷ (body ++ more))) ≡ first_refusal (next_checks Opening 0 (k ∷ body))
+    at : (b : Bool) → eqb k letter_F ≡ b
+        → first_refusal (next_checks Opening 0 (k ∷ (body ++ more))) ≡ first_refusal (next_checks Opening 0 (k ∷ body))
     at true is = let heading = eqb-true k letter_F is in rw heading (heading_checks_stay body more 0 whole)
     at false other = rw other refl
 
 -- in the rows, what follows the first bytes changes nothing where a row is whole or has no room
-rows_stay : (h : Heading) (n k : ℕ) (body more : List ℕ) → most_rows ≤ n ⊎ row_size ≤ length body → first_refusal (sheet_row_checks (Rows h n) (k ∷ (body ++ more))) ≡ first_refusal (sheet_row_checks (Rows h n) (k ∷ body))
+rows_stay : (h : Heading) (n k : ℕ) (body more : List ℕ) → most_rows ≤ n ⊎ row_size ≤ length body
+    → first_refusal (sheet_row_checks (Rows h n) (k ∷ (body ++ more)))
+    ≡ first_refusal (sheet_row_checks (Rows h n) (k ∷ body))
 rows_stay h n k body more room = at (eqb k letter_R) refl
   where
-    at : (b : Bool) → eqb k letter_R ≡ b → first_refusal (sheet_row_checks (Rows h n) (k ∷ (body ++ more))) ≡ first_refusal (sheet_row_checks (Rows h n) (k ∷ body))
+    at : (b : Bool) → eqb k letter_R ≡ b
+        → first_refusal (sheet_row_checks (Rows h n) (k ∷ (body ++ more)))
+        ≡ first_refusal (sheet_row_checks (Rows h n) (k ∷ body))
     at true is =
         let row = eqb-true k letter_R is in
         ⊎_elim (λ (full : most_rows ≤ n). let refused = le-leb most_rows n full in rw (row, refused) refl)
@@ -84,28 +95,38 @@ rows_stay h n k body more room = at (eqb k letter_R) refl
         room
     at false other = other_stays (eqb k letter_A || eqb k letter_Z) refl
       where
-        other_stays : (b : Bool) → (eqb k letter_A || eqb k letter_Z) ≡ b → first_refusal (sheet_row_checks (Rows h n) (k ∷ (body ++ more))) ≡ first_refusal (sheet_row_checks (Rows h n) (k ∷ body))
+        other_stays : (b : Bool) → (eqb k letter_A || eqb k letter_Z) ≡ b
+            → first_refusal (sheet_row_checks (Rows h n) (k ∷ (body ++ more)))
+            ≡ first_refusal (sheet_row_checks (Rows h n) (k ∷ body))
         other_stays true is = rw is refl
         other_stays false is = rw (is, other) refl
 
 -- the sheet of a table is as long as its number of rows says
 sheet_length : (t : OnSheet) → length (sheet_bytes t) ≡ row_place (length t.rows)
-sheet_length t = omega (arith, length-append (entry_bytes (heading t.heading)) (bytes_of (map row t.rows)), rows_length t.rows)
+sheet_length t =
+    omega (arith, length-append (entry_bytes (heading t.heading)) (bytes_of (map row t.rows)), rows_length t.rows)
 
 -- a refusal of so many bytes as decide is that of more bytes
-refusal_stays : (front more : List ℕ) (number : Refusal) (at : ℕ) → length front ≡ deciding → IsSheetRefusedAt front number at → IsSheetRefusedAt (front ++ more) number at
+refusal_stays : (front more : List ℕ) (number : Refusal) (at : ℕ) → length front ≡ deciding
+    → IsSheetRefusedAt front number at → IsSheetRefusedAt (front ++ more) number at
 refusal_stays [] more number at size refused = absurd (omega arith)
-refusal_stays (k ∷ body) more number at size (before_heading refused) = before_heading (opening_stays k body more (omega arith) ∙ refused)
+refusal_stays (k ∷ body) more number at size (before_heading refused) =
+    before_heading (opening_stays k body more (omega arith) ∙ refused)
 refusal_stays (k ∷ body) more number at size (in_rows t left lawful split refused) =
-    in_rows t (left ++ more) lawful (ap (λ xs. xs ++ more) split ∙ append_assoc (sheet_bytes t) left more) (by left counted refused)
+    in_rows t (left ++ more) lawful (ap (λ xs. xs ++ more) split ∙ append_assoc (sheet_bytes t) left more)
+    (by left counted refused)
   where
     counted : row_place (length t.rows) + length left ≡ deciding
     counted = omega (arith, sheet_length t, ap length split, length-append (sheet_bytes t) left)
 
-    by : (left : List ℕ) → row_place (length t.rows) + length left ≡ deciding → first_refusal (sheet_row_checks (sheet_phase_after t) left) ≡ refuses number at → first_refusal (sheet_row_checks (sheet_phase_after t) (left ++ more)) ≡ refuses number at
+    by : (left : List ℕ) → row_place (length t.rows) + length left ≡ deciding
+        → first_refusal (sheet_row_checks (sheet_phase_after t) left) ≡ refuses number at
+        → first_refusal (sheet_row_checks (sheet_phase_after t) (left ++ more)) ≡ refuses number at
     by [] count refused = absurd (omega (arith, lawful.few))
     by (j ∷ rest) count refused =
-        rows_stay t.heading (length t.rows) j rest more (⊎_elim (λ (few : length t.rows < most_rows). inr (omega arith)) (λ (full : most_rows ≤ length t.rows). inl full) (cases_lt (length t.rows) most_rows)) ∙ refused
+        rows_stay t.heading (length t.rows) j rest more
+        (⊎_elim (λ (few : length t.rows < most_rows). inr (omega arith))
+        (λ (full : most_rows ≤ length t.rows). inl full) (cases_lt (length t.rows) most_rows)) ∙ refused
 
 -- what answers the first bytes answers all
 pub first_decide : FirstDecide
@@ -120,6 +141,8 @@ first_decide bytes a answers = ⊎_elim more_follow none_follow (cases_lt decidi
         size : length (take deciding bytes) ≡ deciding
         size = length-take-le deciding bytes (omega arith)
 
-        by : (a : Answer Contents) → Answers (take deciding bytes) a → Answers (take deciding bytes ++ drop deciding bytes) a
+        by : (a : Answer Contents) → Answers (take deciding bytes) a
+            → Answers (take deciding bytes ++ drop deciding bytes) a
         by (gives c) (t, fits, survey) = absurd (omega (arith, size, ap length fits.1, sheet_length t, fits.0.few))
-        by (refuses number at) refused = refusal_stays (take deciding bytes) (drop deciding bytes) number at size refused
+        by (refuses number at) refused =
+            refusal_stays (take deciding bytes) (drop deciding bytes) number at size refused

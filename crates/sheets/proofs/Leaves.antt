@@ -30,7 +30,8 @@ pub findings_length : (t : OnSheet) → length (table_findings t) ≡ length t.r
 findings_length t = length_findings_below (meaning_of t.heading.bound) t.heading.frame [] t.rows
 
 -- the contents made of a lawful table and its findings are a lawful leaf's
-pub leaf_lawful : (t : OnSheet) (fs : List Finding) → IsLawfulSheet t → map tells fs ≡ table_findings t → IsLawfulLeaf (leaf_of t fs)
+pub leaf_lawful : (t : OnSheet) (fs : List Finding) → IsLawfulSheet t → map tells fs ≡ table_findings t
+    → IsLawfulLeaf (leaf_of t fs)
 leaf_lawful t fs lawful found =
     let h = t.heading in
     record {
@@ -41,18 +42,24 @@ leaf_lawful t fs lawful found =
     }
 
 -- the first places of a list that a survey filled are the findings
-pub filled_first : (t : OnSheet) (old : List Found) (new : List Finding) (n : ℕ) → n ≡ length t.rows → map tells new ≡ written old 0 (table_findings t) → map tells (take n new) ≡ table_findings t
+pub filled_first : (t : OnSheet) (old : List Found) (new : List Finding) (n : ℕ) → n ≡ length t.rows
+    → map tells new ≡ written old 0 (table_findings t) → map tells (take n new) ≡ table_findings t
 filled_first t old new n count filled =
     let all : n ≡ 0 + length (table_findings t) = omega (arith, findings_length t) in
-    sym (take-map tells n new) ∙ ap (take n) filled ∙ ap (λ k. take k (written old 0 (table_findings t))) all ∙ take_written old 0 (omega arith) (table_findings t)
+    sym (take-map tells n new) ∙ ap (take n) filled ∙ ap (λ k. take k (written old 0 (table_findings t))) all
+    ∙ take_written old 0 (omega arith) (table_findings t)
 
 module _ (c : Contents) (lawful : IsLawfulLeaf c) where
   -- what filing a lawful leaf whole answers is what putting its bytes answers
-  pub put_answers : (size : ℕ) → checked (file_checks c.heading.frame c.rows c.findings size) (leaf_length (length c.rows)) ≡ checked (buffer_checks (gives c) size) (length (answer_bytes (gives c)))
+  pub put_answers : (size : ℕ)
+      → checked (file_checks c.heading.frame c.rows c.findings size) (leaf_length (length c.rows))
+      ≡ checked (buffer_checks (gives c) size) (length (answer_bytes (gives c)))
   put_answers size =
-      room_is_left c size (leaf_length (length c.rows)) lawful ∙ ap (λ k. checked (check (ltb size k) ShortBuffer 0 ∷ []) k) (sym (encoding_length c lawful))
+      room_is_left c size (leaf_length (length c.rows)) lawful
+      ∙ ap (λ k. checked (check (ltb size k) ShortBuffer 0 ∷ []) k) (sym (encoding_length c lawful))
 
   -- filing a lawful leaf whole puts its bytes
-  pub puts : (old new : List ℕ) (r : Result ℕ Fault) → IfOk r (IsFiled c old new) → OnErr r (new ≡ old) → MatchResult r (λ _. new ≡ written old 0 (answer_bytes (gives c))) (λ _. new ≡ old)
+  pub puts : (old new : List ℕ) (r : Result ℕ Fault) → IfOk r (IsFiled c old new) → OnErr r (new ≡ old)
+      → MatchResult r (λ _. new ≡ written old 0 (answer_bytes (gives c))) (λ _. new ≡ old)
   puts old new (Ok k) filed refused = filed.bytes
   puts old new (Err e) filed same = same

@@ -27,7 +27,8 @@ sheet_row_checks p (k ∷ body) =
 pub data IsSheetRefusedAt (bytes : List ℕ) (number : Refusal) (at : ℕ) : Type 0 where
   before_heading : first_refusal (next_checks Opening 0 bytes) ≡ refuses number at → IsSheetRefusedAt bytes number at
   in_rows : (t : OnSheet) (left : List ℕ) → IsLawfulSheet t → bytes ≡ sheet_bytes t ++ left
-      → first_refusal (sheet_row_checks (sheet_phase_after t) left) ≡ refuses number at → IsSheetRefusedAt bytes number at
+      → first_refusal (sheet_row_checks (sheet_phase_after t) left) ≡ refuses number at
+      → IsSheetRefusedAt bytes number at
 
 -- a table fits: it is lawful, and the bytes are its sheet
 abbrev pub FitsSheet : List ℕ → Answer OnSheet → Type 0

@@ -1,5 +1,6 @@
 -- The bytes read or written so far, and those of one read or write more.
-use Rattle.std.proofs.Common.{◌≡◌, ℕ, ◌+◌, ◌-◌, ◌<◌, ◌≤◌, List, ◌++◌, length, take, drop, Option, refl, sym, subst, ◌∙◌, arith}
+use Rattle.std.proofs.Common.{◌≡◌, ℕ, ◌+◌, ◌-◌, ◌<◌, ◌≤◌, List, ◌++◌, length, take, drop, Option, refl, sym, subst, ◌∙◌}
+use Rattle.std.proofs.Common.{arith}
 use Rattle.std.proofs.KnownBytes.{Appends-trans, Consumes-trans, Consumes-kept}
 use Rattle.std.proofs.lemmas.List.{take_at, drop_at, take-append-le, take_all, length-take-le, length-drop}
 use Rattle.std.specs.Io.KnownBytes.{Appends, Consumes, Keeps}
@@ -20,13 +21,15 @@ take-read xs ys at k n inside fits =
 pub Consumes-more : (a b c : Option (List ℕ)) (xs ys : List ℕ) (at k n : ℕ) → at ≤ length xs → n ≤ length ys
     → Consumes a b (take at xs) → Consumes b c (take n ys) → Consumes a c (take (at + n) (put_mid at k xs ys))
 Consumes-more a b c xs ys at k n inside fits before now =
-    subst (Consumes a c) (sym (take-read xs ys at k n inside fits)) (Consumes-trans a b c (take at xs) (take n ys) before now)
+    subst (Consumes a c) (sym (take-read xs ys at k n inside fits))
+    (Consumes-trans a b c (take at xs) (take n ys) before now)
 
 -- what a reader gave before a read that failed stands in front in the buffer, which has more places
 pub lost_before : (a b c : Option (List ℕ)) (xs ys : List ℕ) (at k size : ℕ) → at ≤ length xs → at < size
     → Consumes a b (take at xs) → Keeps b c → (n : ℕ) × (n < size) × Consumes a c (take n (put_mid at k xs ys))
 lost_before a b c xs ys at k size inside short before kept =
-    let front : take at (put_mid at k xs ys) ≡ take at xs = take_at (take at xs) (ys ++ post_of at k xs) at (length-take-le at xs inside) in
+    let front : take at (put_mid at k xs ys) ≡ take at xs =
+    take_at (take at xs) (ys ++ post_of at k xs) at (length-take-le at xs inside) in
     (at, short, subst (Consumes a c) (sym front) (Consumes-kept a b c (take at xs) before kept))
 
 -- a writer has got what it got before and what it gets now, which is a beginning of what was left

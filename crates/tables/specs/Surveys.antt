@@ -17,4 +17,5 @@ size_checks rows places = full_table rows ∷ list_checks rows places
 -- and short list; then idle row, no window, late deadline, long period and off frame, each at every rank before
 -- the next, with the smallest rank concerned
 abbrev pub survey_checks : FrameNumbers → List Numbers → ℕ → List Check
-survey_checks h table places = frame_checks h ++ (size_checks (length table) places ++ table_flaw_checks (frame_flaws h) table)
+survey_checks h table places =
+    frame_checks h ++ (size_checks (length table) places ++ table_flaw_checks (frame_flaws h) table)

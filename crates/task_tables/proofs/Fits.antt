@@ -1,5 +1,6 @@
 -- The fields that can stand under their columns, and those that numbers and a name are read from.
-use Rattle.std.proofs.Common.{◌≡◌, ℕ, suc, ◌+◌, ◌<◌, ◌==◌, Bool, true, false, cond, List, [], ◌∷◌, length, Option, None, Some, inl, inr, refl, sym, ap, ◌∙◌, subst, arith}
+use Rattle.std.proofs.Common.{◌≡◌, ℕ, suc, ◌+◌, ◌<◌, ◌==◌, Bool, true, false, cond, List, [], ◌∷◌, length, Option, None}
+use Rattle.std.proofs.Common.{Some, inl, inr, refl, sym, ap, ◌∙◌, subst, arith}
 use Rattle.std.specs.Prelude.{◌⊎◌, is_some, nat_le, nat_lt, option_map, slice_get}
 use Rattle.std.specs.List.{AllByRecursion, IsDistinct, list_any, position, position_or_len}
 use Rattle.std.specs.Option.{option_and_then, option_or}
@@ -47,7 +48,8 @@ first_place p x xs e =
     let at_once : position p (x ∷ xs) ≡ cond (nat_lt 0 (length (x ∷ xs))) (Some 0) None = rw e refl in
     at_once ∙ ap (λ b. cond b (Some 0) None) (lt-ltb 0 (length (x ∷ xs)) (omega arith))
 
-next_place : {X : Type 0} (p : X → Bool) (x : X) (xs : List X) → p x ≡ false → position p (x ∷ xs) ≡ option_map suc (position p xs)
+next_place : {X : Type 0} (p : X → Bool) (x : X) (xs : List X) → p x ≡ false
+    → position p (x ∷ xs) ≡ option_map suc (position p xs)
 next_place p x xs e =
     let n = position_or_len p xs in
     let later : position p (x ∷ xs) ≡ cond (nat_lt (1 + n) (length (x ∷ xs))) (Some (1 + n)) None = rw e refl in
@@ -61,20 +63,25 @@ next_place p x xs e =
           ∙ ap (option_map suc) (sym (ap (λ b. cond b (Some n) None) (le-ltb n (length xs) (omega arith))))
     ]
 
-shifted : (g : List ℕ) (gs : List (List ℕ)) (o : Option ℕ) → option_and_then (slice_get (g ∷ gs)) (option_map suc o) ≡ option_and_then (slice_get gs) o
+shifted : (g : List ℕ) (gs : List (List ℕ)) (o : Option ℕ)
+    → option_and_then (slice_get (g ∷ gs)) (option_map suc o) ≡ option_and_then (slice_get gs) o
 shifted g gs None = refl
 shifted g gs (Some k) = refl
 
 -- the field under the first column, and under another one
-pub field_first : (c d : Column) (ds : List Column) (g : List ℕ) (gs : List (List ℕ)) → is_column c d ≡ true → field_under (d ∷ ds) (g ∷ gs) c ≡ Some g
+pub field_first : (c d : Column) (ds : List Column) (g : List ℕ) (gs : List (List ℕ)) → is_column c d ≡ true
+    → field_under (d ∷ ds) (g ∷ gs) c ≡ Some g
 field_first c d ds g gs e = ap (option_and_then (slice_get (g ∷ gs))) (first_place (is_column c) d ds e)
 
-pub field_next : (c d : Column) (ds : List Column) (g : List ℕ) (gs : List (List ℕ)) → is_column c d ≡ false → field_under (d ∷ ds) (g ∷ gs) c ≡ field_under ds gs c
+pub field_next : (c d : Column) (ds : List Column) (g : List ℕ) (gs : List (List ℕ)) → is_column c d ≡ false
+    → field_under (d ∷ ds) (g ∷ gs) c ≡ field_under ds gs c
 field_next c d ds g gs e =
-    ap (option_and_then (slice_get (g ∷ gs))) (next_place (is_column c) d ds e) ∙ shifted g gs (position (is_column c) ds)
+    ap (option_and_then (slice_get (g ∷ gs))) (next_place (is_column c) d ds e)
+    ∙ shifted g gs (position (is_column c) ds)
 
 -- a column that stands behind some is another than each of these, where none stands twice
-another : (n : ℕ) (c : Column) (ds : List Column) → AllByRecursion (λ z. (n == column_number z) ≡ false) ds → has_column ds c ≡ true → (n == column_number c) ≡ false
+another : (n : ℕ) (c : Column) (ds : List Column) → AllByRecursion (λ z. (n == column_number z) ≡ false) ds
+    → has_column ds c ≡ true → (n == column_number c) ≡ false
 another n c [] all has = absurd (cc)
 another n c (d ∷ ds) all has =
     elim (cases_Bool (is_column c d)) [
@@ -83,7 +90,8 @@ another n c (d ∷ ds) all has =
     ]
 
 -- where what is told is a field, it stands under a column and does not fit there
-pub misfit : (all cs : List Column) (row : FieldRow) (k : ℕ) (fs : List (List ℕ)) (t : ToldMisread) → AreDistinct cs → fields_told all row k cs fs ≡ Some t
+pub misfit : (all cs : List Column) (row : FieldRow) (k : ℕ) (fs : List (List ℕ)) (t : ToldMisread) → AreDistinct cs
+    → fields_told all row k cs fs ≡ Some t
     → (c : Column) × (f : List ℕ) × (has_column cs c ≡ true) × (field_under cs fs c ≡ Some f) × (fits c f ≡ false)
 unfolding IsDistinct fields_told
 misfit all [] row k fs t once e = absurd (cc)
@@ -98,7 +106,8 @@ misfit all (d ∷ ds) row k (g ∷ gs) t once e =
     ]
 
 -- where nothing is told of the fields, each fits under its column
-pub fits_under : (all cs : List Column) (row : FieldRow) (k : ℕ) (fs : List (List ℕ)) (c : Column) → length fs ≡ length cs → fields_told all row k cs fs ≡ None → has_column cs c ≡ true
+pub fits_under : (all cs : List Column) (row : FieldRow) (k : ℕ) (fs : List (List ℕ)) (c : Column)
+    → length fs ≡ length cs → fields_told all row k cs fs ≡ None → has_column cs c ≡ true
     → (f : List ℕ) × (field_under cs fs c ≡ Some f) × (fits c f ≡ true)
 unfolding fields_told
 fits_under all [] row k fs c size none has = absurd (cc)
@@ -109,7 +118,8 @@ fits_under all (d ∷ ds) row k (g ∷ gs) c size none has =
           elim (cases_Bool (is_column c d)) [
             | inl e ↦ (g, field_first c d ds g gs e, subst (λ z. fits z g ≡ true) (same_column c d e) fit)
             | inr e ↦
-                let (f, under, good) = fits_under all ds row (k + 1) gs c (omega arith) (rw fit at none) (rw e at has) in
+                let (f, under, good) =
+                fits_under all ds row (k + 1) gs c (omega arith) (rw fit at none) (rw e at has) in
                 (f, field_next c d ds g gs e ∙ under, good)
           ]
       | inr bad ↦
@@ -133,12 +143,14 @@ some_is : {X : Type 0} (o : Option X) → is_some o ≡ true → (x : X) × (o �
 some_is None e = absurd (cc)
 some_is (Some x) e = (x, refl)
 
-number_there : (cs : List Column) (fs : List (List ℕ)) (c : Column) (f : List ℕ) → field_under cs fs c ≡ Some f → is_some (number_of f) ≡ true → (n : ℕ) × (number_under cs fs c ≡ Some n)
+number_there : (cs : List Column) (fs : List (List ℕ)) (c : Column) (f : List ℕ) → field_under cs fs c ≡ Some f
+    → is_some (number_of f) ≡ true → (n : ℕ) × (number_under cs fs c ≡ Some n)
 number_there cs fs c f under good =
     let (n, is) = some_is (number_of f) good in
     (n, ap (option_and_then number_of) under ∙ is)
 
-no_number : (cs : List Column) (fs : List (List ℕ)) (c : Column) (f : List ℕ) → field_under cs fs c ≡ Some f → is_some (number_of f) ≡ false → number_under cs fs c ≡ None
+no_number : (cs : List Column) (fs : List (List ℕ)) (c : Column) (f : List ℕ) → field_under cs fs c ≡ Some f
+    → is_some (number_of f) ≡ false → number_under cs fs c ≡ None
 no_number cs fs c f under bad = ap (option_and_then number_of) under ∙ none_is (number_of f) bad
 
 -- four numbers, of which one is none
@@ -158,7 +170,8 @@ without_jitter (Some w) (Some d) None = refl
 without_jitter (Some w) (Some d) (Some p) = refl
 
 -- a field that does not fit leaves no numbers, or no name
-spoils : (cs : List Column) (fs : List (List ℕ)) (c : Column) (f : List ℕ) → (length fs == length cs) ≡ true → has_column cs c ≡ true → field_under cs fs c ≡ Some f → fits c f ≡ false
+spoils : (cs : List Column) (fs : List (List ℕ)) (c : Column) (f : List ℕ) → (length fs == length cs) ≡ true
+    → has_column cs c ≡ true → field_under cs fs c ≡ Some f → fits c f ≡ false
     → (numbers_of cs fs ≡ None) ⊎ (¬ (IsUtf8 (name_of cs fs)))
 spoils cs fs Name f size has under bad =
     inr (λ text.
@@ -166,12 +179,15 @@ spoils cs fs Name f size has under bad =
     let good : is_utf8 f ≡ true = is_utf8-from_IsUtf8 f (subst IsUtf8 named text) in
     absurd (cc))
 spoils cs fs Work f size has under bad = inl (rw (size, no_number cs fs Work f under bad) refl)
-spoils cs fs Deadline f size has under bad = inl (rw (size, no_number cs fs Deadline f under bad) (without_deadline _ _ _))
+spoils cs fs Deadline f size has under bad =
+    inl (rw (size, no_number cs fs Deadline f under bad) (without_deadline _ _ _))
 spoils cs fs Period f size has under bad = inl (rw (size, no_number cs fs Period f under bad) (without_period _ _ _))
-spoils cs fs Jitter f size has under bad = inl (rw (size, has, no_number cs fs Jitter f under bad) (without_jitter _ _ _))
+spoils cs fs Jitter f size has under bad =
+    inl (rw (size, has, no_number cs fs Jitter f under bad) (without_jitter _ _ _))
 
 -- where each field fits, there are numbers and a name
-name_there : (all cs : List Column) (row : FieldRow) (fs : List (List ℕ)) → length fs ≡ length cs → fields_told all row 1 cs fs ≡ None → IsUtf8 (name_of cs fs)
+name_there : (all cs : List Column) (row : FieldRow) (fs : List (List ℕ)) → length fs ≡ length cs
+    → fields_told all row 1 cs fs ≡ None → IsUtf8 (name_of cs fs)
 name_there all cs row fs size none =
     elim (cases_Bool (has_column cs Name)) [
       | inl has ↦
@@ -183,7 +199,8 @@ name_there all cs row fs size none =
           subst IsUtf8 (sym empty) IsUtf8-nil
     ]
 
-jitter_there : (all cs : List Column) (row : FieldRow) (fs : List (List ℕ)) → length fs ≡ length cs → fields_told all row 1 cs fs ≡ None → (n : ℕ) × (jitter_of cs fs ≡ Some n)
+jitter_there : (all cs : List Column) (row : FieldRow) (fs : List (List ℕ)) → length fs ≡ length cs
+    → fields_told all row 1 cs fs ≡ None → (n : ℕ) × (jitter_of cs fs ≡ Some n)
 jitter_there all cs row fs size none =
     elim (cases_Bool (has_column cs Jitter)) [
       | inl has ↦
@@ -193,7 +210,8 @@ jitter_there all cs row fs size none =
       | inr lacks ↦ (0, rw lacks refl)
     ]
 
-numbers_there : (all cs : List Column) (row : FieldRow) (fs : List (List ℕ)) → length fs ≡ length cs → (length fs == length cs) ≡ true → fields_told all row 1 cs fs ≡ None → has_numbers cs ≡ true
+numbers_there : (all cs : List Column) (row : FieldRow) (fs : List (List ℕ)) → length fs ≡ length cs
+    → (length fs == length cs) ≡ true → fields_told all row 1 cs fs ≡ None → has_numbers cs ≡ true
     → (n : Numbers) × (numbers_of cs fs ≡ Some n)
 numbers_there all cs row fs size same none has =
     let has_work : has_column cs Work ≡ true = grind arith in
@@ -209,7 +227,8 @@ numbers_there all cs row fs size same none has =
     (record { work = w; deadline = d; period = p; jitter = j }, rw (same, is_w, is_d, is_p, is_j) refl)
 
 -- what is told of a row that a table with room cannot take
-told_of_fields : (cs : List Column) (row : FieldRow) (o : Option ToldMisread) → fields_told cs row 1 cs row.fields ≡ o → (length row.fields == length cs) ≡ true → has_numbers cs ≡ true
+told_of_fields : (cs : List Column) (row : FieldRow) (o : Option ToldMisread) → fields_told cs row 1 cs row.fields ≡ o
+    → (length row.fields == length cs) ≡ true → has_numbers cs ≡ true
     → (numbers_of cs row.fields ≡ None) ⊎ (¬ (IsUtf8 (name_of cs row.fields)))
     → o ≡ option_or o (Some (count_told cs row))
 told_of_fields cs row (Some t) is same has cannot = refl
@@ -232,7 +251,8 @@ cannot_told cs before row room has cannot =
     ]
 
 -- nothing is told of a row that one takes
-none_of_fields : (cs : List Column) (row : FieldRow) (o : Option ToldMisread) (n : Numbers) → fields_told cs row 1 cs row.fields ≡ o → (length row.fields == length cs) ≡ true → AreDistinct cs
+none_of_fields : (cs : List Column) (row : FieldRow) (o : Option ToldMisread) (n : Numbers)
+    → fields_told cs row 1 cs row.fields ≡ o → (length row.fields == length cs) ≡ true → AreDistinct cs
     → numbers_of cs row.fields ≡ Some n → IsUtf8 (name_of cs row.fields) → o ≡ None
 none_of_fields cs row None n is same once some text = refl
 none_of_fields cs row (Some t) n is same once some text =
@@ -242,11 +262,13 @@ none_of_fields cs row (Some t) n is same once some text =
       | inr no_text ↦ absurd (no_text text)
     ]
 
-pub taken_told : (cs : List Column) (before : ℕ) (row : FieldRow) (n : Numbers) → nat_le 32 before ≡ false → numbers_of cs row.fields ≡ Some n → IsUtf8 (name_of cs row.fields) → AreDistinct cs
+pub taken_told : (cs : List Column) (before : ℕ) (row : FieldRow) (n : Numbers) → nat_le 32 before ≡ false
+    → numbers_of cs row.fields ≡ Some n → IsUtf8 (name_of cs row.fields) → AreDistinct cs
     → task_told cs before row ≡ None
 taken_told cs before row n room some text once =
     elim (cases_Bool (length row.fields == length cs)) [
-      | inl same ↦ rw (room, same) (none_of_fields cs row (fields_told cs row 1 cs row.fields) n refl same once some text)
+      | inl same ↦ rw (room, same)
+          (none_of_fields cs row (fields_told cs row 1 cs row.fields) n refl same once some text)
       | inr other ↦
           let none : numbers_of cs row.fields ≡ None = rw other refl in
           absurd (cc)
@@ -254,7 +276,9 @@ taken_told cs before row n room some text once =
 
 -- a row with another number of fields
 pub other_count : (cs : List Column) (row : FieldRow) → (length row.fields ≡ length cs → ⊥) → misfit_told cs row ≡ None
-other_count cs row other = rw (false_from_ne_true (length row.fields == length cs) (λ e. other (eq_number (length row.fields) (length cs) e))) refl
+other_count cs row other =
+    rw (false_from_ne_true (length row.fields == length cs) (λ e. other (eq_number (length row.fields) (length cs) e)))
+    refl
 
 -- a table that has not 32 tasks yet
 pub has_room : (n : ℕ) → n < 32 → nat_le 32 n ≡ false

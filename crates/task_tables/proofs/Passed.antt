@@ -1,5 +1,6 @@
 -- The lines that end in what is left of a text, and what stands before its next record, a byte more at a time.
-use Rattle.std.proofs.Common.{◌≡◌, ℕ, suc, ◌+◌, ◌<◌, ◌≤◌, Bool, true, false, List, None, Some, drop, get_or, length, refl, ap, ◌∙◌, arith}
+use Rattle.std.proofs.Common.{◌≡◌, ℕ, suc, ◌+◌, ◌<◌, ◌≤◌, Bool, true, false, List, None, Some, drop, get_or, length}
+use Rattle.std.proofs.Common.{refl, ap, ◌∙◌, arith}
 use Rattle.std.specs.Option.{option_map_or}
 use Rattle.std.specs.Prelude.{if◌then◌else◌}
 use Rattle.std.proofs.lemmas.List.{at_drop_all, at_drop_more}
@@ -22,14 +23,17 @@ passed_all xs i c le = at_drop_all (passed_over c) xs i le
 
 -- a byte that is passed over, and one that is not
 passed_more : (xs : List ℕ) (i d : ℕ) (c : Bool) → i < length xs
-    → passed_over c (drop i xs) ≡ option_map_or (λ next. suc (passed_over next (drop (i + 1) xs))) (passes c (get_or xs i d)) 0
+    → passed_over c (drop i xs)
+    ≡ option_map_or (λ next. suc (passed_over next (drop (i + 1) xs))) (passes c (get_or xs i d)) 0
 unfolding passed_over
 passed_more xs i d c lt = at_drop_more (passed_over c) xs i d lt
 
-pub passed_next : (xs : List ℕ) (i d : ℕ) (c next : Bool) (total : ℕ) → i < length xs → passes c (get_or xs i d) ≡ Some next
+pub passed_next : (xs : List ℕ) (i d : ℕ) (c next : Bool) (total : ℕ) → i < length xs
+    → passes c (get_or xs i d) ≡ Some next
     → i + passed_over c (drop i xs) ≡ total → (i + 1) + passed_over next (drop (i + 1) xs) ≡ total
 passed_next xs i d c next total lt e before =
-    let more : passed_over c (drop i xs) ≡ suc (passed_over next (drop (i + 1) xs)) = passed_more xs i d c lt ∙ rw e refl in
+    let more : passed_over c (drop i xs) ≡ suc (passed_over next (drop (i + 1) xs)) =
+    passed_more xs i d c lt ∙ rw e refl in
     omega arith
 
 pub passed_stop : (xs : List ℕ) (i d : ℕ) (c : Bool) (total : ℕ) → i < length xs → passes c (get_or xs i d) ≡ None
@@ -39,16 +43,21 @@ passed_stop xs i d c total lt e before =
     omega arith
 
 -- a byte that ends a line, and one that ends none
-pub one_ended : (xs : List ℕ) (i d previous ended total : ℕ) → i < length xs → ends_line_behind previous (get_or xs i d) ≡ true
-    → ended + ended_behind previous (drop i xs) ≡ total → (ended + 1) + ended_behind (get_or xs i d) (drop (i + 1) xs) ≡ total
+pub one_ended : (xs : List ℕ) (i d previous ended total : ℕ) → i < length xs
+    → ends_line_behind previous (get_or xs i d) ≡ true
+    → ended + ended_behind previous (drop i xs) ≡ total
+    → (ended + 1) + ended_behind (get_or xs i d) (drop (i + 1) xs) ≡ total
 one_ended xs i d previous ended total lt e before =
     let one : (if ends_line_behind previous (get_or xs i d) then 1 else 0) ≡ 1 = rw e refl in
-    let more : ended_behind previous (drop i xs) ≡ 1 + ended_behind (get_or xs i d) (drop (i + 1) xs) = ended_more xs i d previous lt ∙ ap (λ n. n + ended_behind (get_or xs i d) (drop (i + 1) xs)) one in
+    let more : ended_behind previous (drop i xs) ≡ 1 + ended_behind (get_or xs i d) (drop (i + 1) xs) =
+    ended_more xs i d previous lt ∙ ap (λ n. n + ended_behind (get_or xs i d) (drop (i + 1) xs)) one in
     omega arith
 
-pub none_ended : (xs : List ℕ) (i d previous ended total : ℕ) → i < length xs → ends_line_behind previous (get_or xs i d) ≡ false
+pub none_ended : (xs : List ℕ) (i d previous ended total : ℕ) → i < length xs
+    → ends_line_behind previous (get_or xs i d) ≡ false
     → ended + ended_behind previous (drop i xs) ≡ total → ended + ended_behind (get_or xs i d) (drop (i + 1) xs) ≡ total
 none_ended xs i d previous ended total lt e before =
     let none : (if ends_line_behind previous (get_or xs i d) then 1 else 0) ≡ 0 = rw e refl in
-    let more : ended_behind previous (drop i xs) ≡ 0 + ended_behind (get_or xs i d) (drop (i + 1) xs) = ended_more xs i d previous lt ∙ ap (λ n. n + ended_behind (get_or xs i d) (drop (i + 1) xs)) none in
+    let more : ended_behind previous (drop i xs) ≡ 0 + ended_behind (get_or xs i d) (drop (i + 1) xs) =
+    ended_more xs i d previous lt ∙ ap (λ n. n + ended_behind (get_or xs i d) (drop (i + 1) xs)) none in
     omega arith

@@ -1,5 +1,6 @@
 -- The bytes of a character that is seen as another.
-use Rattle.std.proofs.Common.{◌≡◌, ℕ, ◌+◌, ◌*◌, ◌/◌, ◌%◌, ◌<◌, ◌≤◌, Bool, true, false, List, [], ◌∷◌, ◌++◌, length, append-nil, map, inl, inr, refl, sym, ap, ◌∙◌, arith}
+use Rattle.std.proofs.Common.{◌≡◌, ℕ, ◌+◌, ◌*◌, ◌/◌, ◌%◌, ◌<◌, ◌≤◌, Bool, true, false, List, [], ◌∷◌, ◌++◌, length}
+use Rattle.std.proofs.Common.{append-nil, map, inl, inr, refl, sym, ap, ◌∙◌, arith}
 use Rattle.std.specs.Prelude.{ltb}
 use Rattle.std.specs.Char.{encode_utf8, is_ascii_control}
 use Rattle.std.proofs.lemmas.Bool.{cases_lt, cases_Bool, lt-ltb, le-ltb}
@@ -50,12 +51,16 @@ seen_char c =
     ]
 
 -- a character more that is seen
-pub seen_more : (text before rest seen : List ℕ) (c : ℕ) → printable_text text ≡ seen ++ printable_text before → before ≡ encode_utf8 c ++ rest
+pub seen_more : (text before rest seen : List ℕ) (c : ℕ) → printable_text text ≡ seen ++ printable_text before
+    → before ≡ encode_utf8 c ++ rest
     → printable_text text ≡ (seen ++ encode_utf8 (printable_char c)) ++ printable_text rest
 seen_more text before rest seen c so_far is =
-    let parts : printable_text before ≡ encode_utf8 (printable_char c) ++ printable_text rest = ap printable_text is ∙ map-append printable_char (encode_utf8 c) rest ∙ ap (λ w. w ++ printable_text rest) (seen_char c) in
+    let parts : printable_text before ≡ encode_utf8 (printable_char c) ++ printable_text rest =
+    ap printable_text is ∙ map-append printable_char (encode_utf8 c) rest
+    ∙ ap (λ w. w ++ printable_text rest) (seen_char c) in
     so_far ∙ ap (λ w. seen ++ w) parts ∙ sym (append_assoc seen (encode_utf8 (printable_char c)) (printable_text rest))
 
-pub seen_all : (text rest seen : List ℕ) → printable_text text ≡ seen ++ printable_text rest → length rest ≡ 0 → seen ≡ printable_text text
+pub seen_all : (text rest seen : List ℕ) → printable_text text ≡ seen ++ printable_text rest → length rest ≡ 0
+    → seen ≡ printable_text text
 seen_all text [] seen so_far none = sym (so_far ∙ append-nil seen)
 seen_all text (b ∷ rest) seen so_far none = absurd (omega arith)

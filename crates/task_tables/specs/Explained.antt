@@ -34,7 +34,9 @@ complaint_of _ n = None
 abbrev pub told_of : TaskTable → Fault → Option (ℕ × Complaint)
 told_of t fault =
     if fault.at == 0 then None
-    else option_and_then (λ line. option_map (λ c. (line, c)) (option_and_then (complaint_of fault.refusal) (slice_get (table_numbers t) (fault.at - 1))))
+    else option_and_then
+    (λ line. option_map (λ c. (line, c))
+    (option_and_then (complaint_of fault.refusal) (slice_get (table_numbers t) (fault.at - 1))))
     (slice_get (table_lines t) (fault.at - 1))
 
 -- a spot is where the number of a complaint stands: its line, its field and column, the number in decimal, and what was
@@ -55,4 +57,5 @@ IsSpotTold t (Some p) (Some s) = IsSpotOf t p.0 p.1 s
 -- a fault is told: where the number stands that it is about, and its refusal, with the rank where there is such a number
 pub record IsExplained (t : TaskTable) (fault : Fault) (m : Misread) : Type 0 where
   pub spot : IsSpotTold t (told_of t fault) m.spot
-  pub refused : m.refused ≡ Some (record { refusal = fault.refusal; rank = option_map (λ _. fault.at) (told_of t fault) })
+  pub refused : m.refused
+      ≡ Some (record { refusal = fault.refusal; rank = option_map (λ _. fault.at) (told_of t fault) })

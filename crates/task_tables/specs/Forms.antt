@@ -1,5 +1,6 @@
 -- The forms that a text may have: what parts the fields of a line.
-use Rattle.std.specs.Prelude.{ℕ, Bool, true, ◌&&◌, ◌||◌, not, List, length, map, Some, ◌==◌, slice_index, find, filter, if◌then◌else◌}
+use Rattle.std.specs.Prelude.{ℕ, Bool, true, ◌&&◌, ◌||◌, not, List, length, map, Some, ◌==◌, slice_index, find, filter}
+use Rattle.std.specs.Prelude.{if◌then◌else◌}
 use Rattle.std.specs.List.{list_any, slice_split}
 use Rattle.std.specs.Option.{option_map_or}
 use Rattle.csv.specs.Reading.{default_config, strip_bom}
@@ -27,7 +28,8 @@ decides line = not (is_comment line) && has_text line
 
 -- the form that a line decides: a comma in it, else a tab in it, else blanks
 abbrev pub form_of_line : List ℕ → FieldsForm
-form_of_line line = if list_any (λ b. b == 44) line then Commas else (if list_any (λ b. b == 9) line then Tabs else Blanks)
+form_of_line line =
+    if list_any (λ b. b == 44) line then Commas else (if list_any (λ b. b == 9) line then Tabs else Blanks)
 
 -- the form of a text, which the first line that can decides
 unfoldable pub form_of : List ℕ → FieldsForm

@@ -19,7 +19,8 @@ pub record ToldMisread : Type 0 where
 
 -- what is told of a whole line
 abbrev pub of_line : ℕ → Expected → Option Refusal → ToldMisread
-of_line line expected refusal = record { line = line; field = None; column = None; expected = expected; refusal = refusal }
+of_line line expected refusal =
+    record { line = line; field = None; column = None; expected = expected; refusal = refusal }
 
 -- what is told of a field
 abbrev pub of_field : Place → Option Column → Expected → Option Refusal → ToldMisread
@@ -41,4 +42,6 @@ refusal_told m = option_map (λ r. r.refusal) m.refused
 -- what a misread tells, where it tells of a place
 abbrev pub told_by : Misread → Option ToldMisread
 told_by m =
-    option_map (λ s. record { line = s.line; field = s.field; column = s.column; expected = s.expected; refusal = refusal_told m }) m.spot
+    option_map (λ s.
+    record { line = s.line; field = s.field; column = s.column; expected = s.expected; refusal = refusal_told m })
+    m.spot

@@ -1,5 +1,6 @@
 -- The task of a record, by the columns that the heading names.
-use Rattle.std.specs.Prelude.{◌≡◌, ℕ, ◌^◌, ◌<◌, ◌==◌, Bool, List, [], ◌∷◌, length, position, Option, None, Some, is_some, option_map, unwrap_or, decimal, if◌then◌else◌}
+use Rattle.std.specs.Prelude.{◌≡◌, ℕ, ◌^◌, ◌<◌, ◌==◌, Bool, List, [], ◌∷◌, length, position, Option, None, Some}
+use Rattle.std.specs.Prelude.{is_some, option_map, unwrap_or, decimal, if◌then◌else◌}
 use Rattle.std.specs.List.{slice_get}
 use Rattle.std.specs.Option.{option_and_then}
 use Rattle.std.specs.Str.{is_utf8}
@@ -39,7 +40,8 @@ all_numbers (Some w) (Some d) (Some p) (Some j) = Some (record { work = w; deadl
 abbrev pub numbers_of : List Column → List (List ℕ) → Option Numbers
 numbers_of columns fields =
     if length fields == length columns
-    then all_numbers (number_under columns fields Work) (number_under columns fields Deadline) (number_under columns fields Period) (jitter_of columns fields)
+    then all_numbers (number_under columns fields Work) (number_under columns fields Deadline)
+    (number_under columns fields Period) (jitter_of columns fields)
     else None
 
 -- the columns of the four numbers

@@ -1,5 +1,6 @@
 -- What is told of a text that is no table: the first trouble in the order of its lines.
-use Rattle.std.specs.Prelude.{◌≡◌, ℕ, suc, ◌+◌, true, ◌==◌, List, [], ◌∷◌, ◌++◌, length, Option, None, Some, nat_le, ⊤, if◌then◌else◌}
+use Rattle.std.specs.Prelude.{◌≡◌, ℕ, suc, ◌+◌, true, ◌==◌, List, [], ◌∷◌, ◌++◌, length, Option, None, Some, nat_le, ⊤}
+use Rattle.std.specs.Prelude.{if◌then◌else◌}
 use Rattle.std.specs.Option.{option_map_or, option_or}
 use Rattle.csv.specs.Reading.{strip_bom}
 use Rattle.rows.specs.declared.refusals.Refusal.TheVariants as refusal
@@ -24,7 +25,8 @@ no_column line field heading =
 
 -- what is told of a heading behind those of some columns: it names none, or one of these again; else what is told of those
 -- behind it
-abbrev pub heading_told : ℕ → List Column → List ℕ → (List Column → Option ToldMisread) → Option Column → Option ToldMisread
+abbrev pub heading_told : ℕ → List Column → List ℕ → (List Column → Option ToldMisread) → Option Column
+    → Option ToldMisread
 heading_told line columns heading more None = Some (no_column line (length columns + 1) heading)
 heading_told line columns heading more (Some c) =
     if has_column columns c then Some (of_field (place_at line (length columns + 1)) None expected.OtherHeading None)
@@ -48,11 +50,13 @@ fields_told all row field [] fs = None
 fields_told all row field (c ∷ cs) [] = None
 fields_told all row field (c ∷ cs) (f ∷ fs) =
     if fits c f then fields_told all row (field + 1) cs fs
-    else Some (of_field (place_at row.line field) (Some c) (expected_for expected.Number f) (refusal_of all row.fields c f))
+    else Some (of_field (place_at row.line field) (Some c) (expected_for expected.Number f)
+    (refusal_of all row.fields c f))
 
 -- what is told of the fields of a row, where there are as many as columns
 abbrev pub misfit_told : List Column → FieldRow → Option ToldMisread
-misfit_told columns row = if length row.fields == length columns then fields_told columns row 1 columns row.fields else None
+misfit_told columns row =
+    if length row.fields == length columns then fields_told columns row 1 columns row.fields else None
 
 -- what is told of the number of fields of a row
 abbrev pub count_told : List Column → FieldRow → ToldMisread

@@ -1,5 +1,6 @@
 -- The worked table is right.
-use Rattle.std.proofs.Common.{◌≡◌, ℕ, zero, suc, ◌+◌, ◌<◌, ◌≤◌, Bool, true, false, cond, not, ◌&&◌, ◌||◌, eqb, sym, refl, ◌∙◌, subst, ⊎_elim, arith}
+use Rattle.std.proofs.Common.{◌≡◌, ℕ, zero, suc, ◌+◌, ◌<◌, ◌≤◌, Bool, true, false, cond, not, ◌&&◌, ◌||◌, eqb, sym}
+use Rattle.std.proofs.Common.{refl, ◌∙◌, subst, ⊎_elim, arith}
 use Rattle.std.proofs.lemmas.Bool.{and_parts, and_right, cases_lt, cases_order, lt-leb, ne_eqb, or_from}
 use Rattle.rows.specs.Counting.{is_rise}
 use Rattle.bounds.specs.Instants.{least, count}

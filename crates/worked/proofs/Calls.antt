@@ -72,7 +72,9 @@ unfolding least count first_rest stop points
 e_told = refl
 
 -- the answers to the calls, and the book that they come to
-pub calls_come : Comes first_book worked_calls with_be (gives done ∷ gives done ∷ gives done ∷ refuses Overload 3 ∷ gives done ∷ gives done ∷ gives (row_found (plain row_e) (meets 5 1)) ∷ [])
+pub calls_come : Comes first_book worked_calls with_be
+    (gives done ∷ gives done ∷ gives done ∷ refuses Overload 3 ∷ gives done ∷ gives done
+    ∷ gives (row_found (plain row_e) (meets 5 1)) ∷ [])
 calls_come =
     then frame_set
     (then a_admitted

@@ -23,7 +23,8 @@ module _ {X : Type 0} (old : List X) (i : ℕ) (within : i ≤ length old) where
   pub written_on : (a b : List X) → written (written old i a) (i + length a) b ≡ written old i (a ++ b)
   written_on a b =
       let behind : drop (i + length a + length b) (written old i a) ≡ drop (i + length (a ++ b)) old =
-      sym (drop-drop (length b) (i + length a) (written old i a)) ∙ ap (drop (length b)) (drop_written a) ∙ drop-drop (length b) (i + length a) old
+      sym (drop-drop (length b) (i + length a) (written old i a)) ∙ ap (drop (length b)) (drop_written a)
+      ∙ drop-drop (length b) (i + length a) old
       ∙ ap (λ n. drop n old) (omega (arith, length-append a b)) in
       ap₂ (λ xs ys. xs ++ (b ++ ys)) (take_written a) behind
       ∙ append_assoc (take i old) a (b ++ drop (i + length (a ++ b)) old)
@@ -34,7 +35,14 @@ pub written_none : {X : Type 0} (old : List X) (i : ℕ) → written old i [] �
 written_none old i = ap (λ n. take i old ++ drop n old) (omega arith) ∙ take-append-drop i old
 
 -- a list keeps its length, where what is written over it fits
-pub written_length : {X : Type 0} (old : List X) (i : ℕ) (a : List X) → i + length a ≤ length old → length (written old i a) ≡ length old
+pub written_length : {X : Type 0} (old : List X) (i : ℕ) (a : List X) → i + length a ≤ length old
+    → length (written old i a) ≡ length old
 written_length old i a fits =
-    length-append (take i old) (a ++ drop (i + length a) old) ∙ ap₂ ◌+◌ (length-take-le i old (omega arith)) (length-append a (drop (i + length a) old))
-    ∙ omega (arith, ap length (take-append-drop (i + length a) old), length-append (take (i + length a) old) (drop (i + length a) old), length-take-le (i + length a) old fits)
+    length-append (take i old) (a ++ drop (i + length a) old)
+    ∙ ap₂ ◌+◌ (length-take-le i old (omega arith)) (length-append a (drop (i + length a) old))
+    ∙ omega (
+      arith,
+      ap length (take-append-drop (i + length a) old),
+      length-append (take (i + length a) old) (drop (i + length a) old),
+      length-take-le (i + length a) old fits,
+    )

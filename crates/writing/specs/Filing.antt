@@ -50,7 +50,8 @@ pub record FilesWhole (old : List ℕ) (es : List Entry) (new : List ℕ) : Type
 -- filing the entries of a leaf in turn on one buffer is filing it whole
 pub record IsWholeInTurn : Type 0 where
   -- what is filed in turn from the opening to the end is a whole leaf, and leaves the bytes of one
-  pub whole : (old new : List ℕ) (es : List Entry) (h : Heading) (n : ℕ) → FilesAll Opening old es (Closed h n) new → FilesWhole old es new
+  pub whole : (old new : List ℕ) (es : List Entry) (h : Heading) (n : ℕ) → FilesAll Opening old es (Closed h n) new
+      → FilesWhole old es new
   -- every leaf for which there is room can be filed in turn, and leaves the bytes of a whole one
   pub turn : (old : List ℕ) (c : Contents) → IsLawful c → length (encoding c) ≤ length old
       → FilesAll Opening old (entries c) (Closed c.heading (length c.rows)) (written old 0 (encoding c))

@@ -35,12 +35,18 @@ module _ (p : Parameters) (some : 1 ≤ p.size) (h : ℕ) (r : Row) where
 
   -- the amount is at most (k + 1) / k times the exact steps, since the jobs are
   amount_close : (t : ℕ) → p.accuracy * amount t ≤ (p.accuracy + 1) * (h * steps r t)
-  amount_close t = omega (arith, parts_grow h r.work (p.accuracy * batch_count p (job_count r t)) ((p.accuracy + 1) * job_count r t) (count_close p some (job_count r t)))
+  amount_close t =
+      omega (
+        arith,
+        parts_grow h r.work (p.accuracy * batch_count p (job_count r t)) ((p.accuracy + 1) * job_count r t)
+            (count_close p some (job_count r t)),
+      )
 
   -- the amount bends upward only where exact steps rise
   amount_bends : (t : ℕ) → 1 ≤ t → is_rise r t ≡ false → amount (t - 1) + amount (t + 1) ≤ 2 * amount t
   amount_bends t late level =
-      let before = parts_grow h r.work _ _ (count_grows p some (job_count r (t - 1)) (job_count r t) (jobs_grow r (t - 1) t (omega arith))) in
+      let before = parts_grow h r.work _ _
+      (count_grows p some (job_count r (t - 1)) (job_count r t) (jobs_grow r (t - 1) t (omega arith))) in
       rw (jobs_stay r t late level) (omega arith)
 
 -- jobs counted in batches keep every law of a bound

@@ -28,7 +28,9 @@ asked_tells h r t ask =
 
 -- what is asked at one instant can be asked at any other up to the horizon
 pub asked_then : (h : ℕ) (r : Row) (t u : ℕ) → is_asked h r t ≡ true → u ≤ horizon → is_asked h r u ≡ true
-asked_then h r t u ask near = and_from (is_frame h && is_on_frame h r) (nat_le u horizon) (and_parts (is_frame h && is_on_frame h r) (nat_le t horizon) ask).0 (le-leb u horizon near)
+asked_then h r t u ask near =
+    and_from (is_frame h && is_on_frame h r) (nat_le u horizon)
+    (and_parts (is_frame h && is_on_frame h r) (nat_le t horizon) ask).0 (le-leb u horizon near)
 
 -- no exact steps up to the horizon pass this: the periods of a row's jobs together are shorter than the instant, the
 -- jitter and one period more

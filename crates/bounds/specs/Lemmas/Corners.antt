@@ -2,7 +2,8 @@
 use Rattle.std.specs.Prelude.{◌≡◌, ℕ, zero, suc, ◌+◌, ◌-◌, ◌*◌, ◌<◌, ◌≤◌, Bool, true, false, cond}
 use Rattle.std.proofs.Common.{sym, refl, ⊎_elim, lt_of_mul-lt-mul_right, arith}
 use Rattle.std.proofs.lemmas.Nat.{mul-le}
-use Rattle.std.proofs.lemmas.Bool.{and_parts, and_left, and_right, and_from, and_cases, leb-true, leb-false, le-leb, lt-leb, cases_lt, both_ways}
+use Rattle.std.proofs.lemmas.Bool.{and_parts, and_left, and_right, and_from, and_cases, leb-true, leb-false, le-leb}
+use Rattle.std.proofs.lemmas.Bool.{lt-leb, cases_lt, both_ways}
 use Rattle.rows.specs.declared.tasks.Row.{Row}
 use Rattle.rows.specs.Counting.{is_rise}
 use Rattle.bounds.specs.Instants.{count, IsFirst}
@@ -28,14 +29,18 @@ module _ (k : ℕ) (r : Row) where
 
   -- before the tail, what is no corner is no rise
   pub rest_before : (t : ℕ) → corner t ≡ false → is_before_tail k r t ≡ true → is_rise r t ≡ false
-  rest_before t rest before = ⊎_elim (λ e. e) (λ past. absurd (both_ways (is_before_tail k r t) past before)) (and_cases (is_rise r t) (is_before_tail k r t) rest)
+  rest_before t rest before =
+      ⊎_elim (λ e. e) (λ past. absurd (both_ways (is_before_tail k r t) past before))
+      (and_cases (is_rise r t) (is_before_tail k r t) rest)
 
   -- before the tail and at no rise there is room for one instant more
-  pub still_before : (t : ℕ) → 1 ≤ t → is_rise r t ≡ false → is_before_tail k r t ≡ true → is_before_tail k r (t + 1) ≡ true
+  pub still_before : (t : ℕ) → 1 ≤ t → is_rise r t ≡ false → is_before_tail k r t ≡ true
+      → is_before_tail k r (t + 1) ≡ true
   still_before t late rest before =
       let order = leb-true (t + r.jitter) begin before in
       let some = lt_of_mul-lt-mul_right r.period {m = 0} {n = k - 1} (omega arith) in
-      let apart : t + r.jitter ≡ begin → ⊥ = λ multiple. both_ways (is_rise r t) rest (multiple_rises r t (k - 1) some multiple) in
+      let apart : t + r.jitter ≡ begin
+      → ⊥ = λ multiple. both_ways (is_rise r t) rest (multiple_rises r t (k - 1) some multiple) in
       le-leb (t + 1 + r.jitter) begin (omega arith)
 
   -- the first rise is the first corner where it is before the tail
@@ -49,7 +54,8 @@ module _ (k : ℕ) (r : Row) where
       }
 
   -- where the first rise is past the tail's beginning, no corner follows
-  pub no_corner : (s e t : ℕ) → IsFirst (is_rise r) s e t → false ≡ is_before_tail k r t → (i : ℕ) → s < i → corner i ≡ false
+  pub no_corner : (s e t : ℕ) → IsFirst (is_rise r) s e t → false ≡ is_before_tail k r t → (i : ℕ) → s < i
+      → corner i ≡ false
   no_corner s e t first past i low =
       ⊎_elim (λ early. and_left (is_rise r i) (is_before_tail k r i) (first.none i low early))
       (λ late. and_right (is_rise r i) (is_before_tail k r i) (later_past t i late (sym past)))

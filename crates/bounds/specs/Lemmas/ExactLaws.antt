@@ -11,7 +11,8 @@ use Rattle.bounds.specs.Lemmas.Instants.{count_le}
 use Rattle.rows.proofs.Rising.{steps_grow, steps_stay}
 
 -- exact steps bend upward only where they rise
-pub exact_bends : (h : ℕ) (r : Row) (t : ℕ) → 1 ≤ t → is_rise r t ≡ false → h * steps r (t - 1) + h * steps r (t + 1) ≤ 2 * (h * steps r t)
+pub exact_bends : (h : ℕ) (r : Row) (t : ℕ) → 1 ≤ t → is_rise r t ≡ false
+    → h * steps r (t - 1) + h * steps r (t + 1) ≤ 2 * (h * steps r t)
 exact_bends h r t late rest =
     let before = mul-le h (steps r (t - 1)) h (steps r t) (omega arith) (steps_grow r (t - 1) t (omega arith)) in
     rw (steps_stay r t late rest) (omega arith)

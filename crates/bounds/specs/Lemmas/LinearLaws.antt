@@ -50,7 +50,8 @@ module _ (h : ℕ) (r : Row) (t : ℕ) (divides : h / r.period * r.period ≡ h)
       let many = lt_of_mul-lt-mul_right r.period {m = k - 1} {n = jobs} (omega arith) in
       let lead = mul-le k r.period jobs r.period (omega arith) (omega arith) in
       let rest = mul-le k (t + r.jitter) k (jobs * r.period) (omega arith) covers in
-      let both = mul-le (share h r) (k * (r.period + (t + r.jitter))) (share h r) ((k + 1) * (r.period * jobs)) (omega arith) (omega arith) in
+      let both = mul-le (share h r) (k * (r.period + (t + r.jitter))) (share h r) ((k + 1) * (r.period * jobs))
+      (omega arith) (omega arith) in
       rw (steps_shared, line_shared) (omega arith)
 
 module _ (k h : ℕ) (r : Row) where
@@ -60,15 +61,20 @@ module _ (k h : ℕ) (r : Row) where
 
   -- the amount is nowhere above the line
   pub below_line : (t : ℕ) → h / r.period * r.period ≡ h → amount t ≤ line h r t
-  below_line t divides = cond_both (is_before_tail k r t) (h * steps r t) (line h r t) (λ x. x ≤ line h r t) (λ _. line_covers h r t divides) (λ _. omega arith)
+  below_line t divides =
+      cond_both (is_before_tail k r t) (h * steps r t) (line h r t) (λ x. x ≤ line h r t)
+      (λ _. line_covers h r t divides) (λ _. omega arith)
 
   -- before the tail the amount bends upward only where steps rise
-  bends_before : (t : ℕ) → 1 ≤ t → is_rise r t ≡ false → is_before_tail k r t ≡ true → amount (t - 1) + amount (t + 1) ≤ 2 * amount t
+  bends_before : (t : ℕ) → 1 ≤ t → is_rise r t ≡ false → is_before_tail k r t ≡ true
+      → amount (t - 1) + amount (t + 1) ≤ 2 * amount t
   bends_before t late rest before =
-      rw (earlier_before k r (t - 1) t (omega arith) before, before, still_before k r t late rest before) (exact_bends h r t late rest)
+      rw (earlier_before k r (t - 1) t (omega arith) before, before, still_before k r t late rest before)
+      (exact_bends h r t late rest)
 
   -- past the tail's beginning it does not bend upward at all
-  bends_after : (t : ℕ) → 1 ≤ t → h / r.period * r.period ≡ h → is_before_tail k r t ≡ false → amount (t - 1) + amount (t + 1) ≤ 2 * amount t
+  bends_after : (t : ℕ) → 1 ≤ t → h / r.period * r.period ≡ h → is_before_tail k r t ≡ false
+      → amount (t - 1) + amount (t + 1) ≤ 2 * amount t
   bends_after t late divides past =
       let before = below_line (t - 1) divides in
       let straight = line_straight h r t late in
@@ -78,9 +84,14 @@ module _ (k h : ℕ) (r : Row) where
 pub linear_laws : (k : ℕ) → 1 ≤ k → k ≤ finest → Laws (linear_tail k)
 linear_laws k low high =
     record {
-      covers = λ h r t ask. cond_both (is_before_tail k r t) (h * steps r t) (line h r t) (λ x. h * steps r t ≤ x) (λ _. omega arith) (λ _. line_covers h r t (asked_tells h r t ask).divides);
-      close = λ h r t ask. cond_both (is_before_tail k r t) (h * steps r t) (line h r t) (λ x. k * x ≤ (k + 1) * (h * steps r t)) (λ _. omega arith)
-          (λ past. line_close h r t (asked_tells h r t ask).divides k (leb-false (t + r.jitter) ((k - 1) * r.period) past));
+      covers = λ h r t ask.
+          cond_both (is_before_tail k r t) (h * steps r t) (line h r t) (λ x. h * steps r t ≤ x) (λ _. omega arith)
+          (λ _. line_covers h r t (asked_tells h r t ask).divides);
+      close = λ h r t ask.
+          cond_both (is_before_tail k r t) (h * steps r t) (line h r t) (λ x. k * x ≤ (k + 1) * (h * steps r t))
+          (λ _. omega arith)
+          (λ past. line_close h r t (asked_tells h r t ask).divides k
+          (leb-false (t + r.jitter) ((k - 1) * r.period) past));
       some_accuracy = low;
       most_accuracy = high;
       bends = λ h r t ask late before rest. ⊎_elim

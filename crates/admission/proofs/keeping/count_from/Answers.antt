@@ -18,7 +18,12 @@ returns g c =
     let all = findings_of m table.frame table.rows in
     let many = length_findings_below m table.frame [] table.rows in
     let lent = when_ok _ _ c.recount.result c.unwrap.result c.unwrap.ensures c.recount.ensures.filled in
-    let filled = subst (λ xs. map tells new ≡ written (map tells xs) c.args.from (drop c.args.from all)) c.as_mut_slice.ensures.value lent in
-    let counted = recounted (map tells old) all (map tells new) c.args.from (omega (arith, many, c.requires.within)) (omega (arith, length-map old tells, many, c.requires.size)) c.requires.known filled in
-    let size : length new ≡ length old = omega (arith, length-map new tells, ap length counted, many, c.requires.size) in
+    let filled = subst
+    (λ xs. map tells new ≡ written (map tells xs) c.args.from (drop c.args.from all)) c.as_mut_slice.ensures.value
+    lent in
+    let counted =
+    recounted (map tells old) all (map tells new) c.args.from (omega (arith, many, c.requires.within))
+    (omega (arith, length-map old tells, many, c.requires.size)) c.requires.known filled in
+    let size : length new ≡ length old =
+    omega (arith, length-map new tells, ap length counted, many, c.requires.size) in
     ap (map tells) (refilled old new size) ∙ counted

@@ -11,10 +11,12 @@ use Rattle.admission.proofs.Standing.{standing_rows_meet}
 use Rattle.admission.proofs.playing.play.Goals as goal
 
 pub returns-then-replies-calls-clause-meet : goal.returns-then-replies-calls-clause-meet
-returns-then-replies-calls-clause-meet g c = standing_rows_meet (g.B.Bound.meaning c.args.bound) (g.met.B.Bound.lawful c.args.bound)
+returns-then-replies-calls-clause-meet g c =
+    standing_rows_meet (g.B.Bound.meaning c.args.bound) (g.met.B.Bound.lawful c.args.bound)
 
 pub returns-then-replies-calls-clause-overloads : goal.returns-then-replies-calls-clause-overloads
-returns-then-replies-calls-clause-overloads g c = overloads_miss (g.B.Bound.meaning c.args.bound) (g.met.B.Bound.lawful c.args.bound)
+returns-then-replies-calls-clause-overloads g c =
+    overloads_miss (g.B.Bound.meaning c.args.bound) (g.met.B.Bound.lawful c.args.bound)
 
 pub returns-then-replies-calls-clause-finer_admits : goal.returns-then-replies-calls-clause-finer_admits
 returns-then-replies-calls-clause-finer_admits g c = finer_admits
@@ -41,12 +43,16 @@ loop-i-preserved g c =
     let all = answers_to m c.args.calls.now in
     let old = map answer_of c.args.replies.now in
     let now = map answer_of c.loop-i.replies in
-    let room : i < length old = omega (arith, length-map c.args.replies.now answer_of, c.loop-i-test.true, c.if-replies-calls.false) in
+    let room : i < length old =
+    omega (arith, length-map c.args.replies.now answer_of, c.loop-i-test.true, c.if-replies-calls.false) in
     let left : i - 0 < length all = omega (arith, length_answers_to m c.args.calls.now, c.loop-i-test.true) in
-    let next = replies_more g.B.Bound.meaning c.args.bound c.args.calls.now i _ c.loop-i.bench c.call.new.self c.call.result c.loop-i-test.true c.loop-i.invariant.became c.call.ensures.does in
+    let next = replies_more g.B.Bound.meaning c.args.bound c.args.calls.now i _ c.loop-i.bench c.call.new.self
+    c.call.result c.loop-i-test.true c.loop-i.invariant.became c.call.ensures.does in
     record {
-      became = becomes_more g.B.Bound.meaning c.args.bound c.args.calls.now i _ c.loop-i.bench c.call.new.self c.call.result c.loop-i-test.true c.loop-i.invariant.became c.call.ensures.does;
-      put = map-set answer_of c.loop-i.replies i c.call.result ∙ put_more old all 0 now i (answer_of c.call.result) c.loop-i.invariant.put (omega arith) room left next;
+      became = becomes_more g.B.Bound.meaning c.args.bound c.args.calls.now i _ c.loop-i.bench c.call.new.self
+          c.call.result c.loop-i-test.true c.loop-i.invariant.became c.call.ensures.does;
+      put = map-set answer_of c.loop-i.replies i c.call.result
+          ∙ put_more old all 0 now i (answer_of c.call.result) c.loop-i.invariant.put (omega arith) room left next;
       stay = stays_more c.args.replies.now c.loop-i.replies 0 i c.call.result (omega arith) c.loop-i.invariant.stay;
       room = length-set c.loop-i.replies i c.call.result ∙ c.loop-i.invariant.room;
     }
@@ -55,4 +61,5 @@ pub returns-clause-replied : goal.returns-clause-replied
 returns-clause-replied g c =
     let m = g.B.Bound.meaning c.args.bound in
     let all = answers_to m c.args.calls.now in
-    put_all (map answer_of c.args.replies.now) all 0 (map answer_of c.loop-i.replies) c.loop-i.i c.loop-i.invariant.put (omega (arith, length_answers_to m c.args.calls.now, c.loop-i-test.false, c.loop-i.auto.i-end))
+    put_all (map answer_of c.args.replies.now) all 0 (map answer_of c.loop-i.replies) c.loop-i.i c.loop-i.invariant.put
+    (omega (arith, length_answers_to m c.args.calls.now, c.loop-i-test.false, c.loop-i.auto.i-end))

@@ -10,4 +10,8 @@ overflow_mul-result-2 c =
     let asks = sym c.if-not-asked.ensures in
     let known = asked_tells c.args.frame row c.args.at asks in
     rw (c.from.ensures, c.from-2.ensures, c.batch_count-jobs.ensures, c.job_count.ensures)
-    (record { fits = amount_fits (batches_laws c.args.self.now) c.args.frame row _ (asked_then c.args.frame row c.args.at _ asks (omega arith)) })
+    (record {
+      fits =
+          amount_fits (batches_laws c.args.self.now) c.args.frame row _
+          (asked_then c.args.frame row c.args.at _ asks (omega arith));
+    })

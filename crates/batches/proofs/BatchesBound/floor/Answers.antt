@@ -9,4 +9,5 @@ use Rattle.batches.proofs.BatchesBound.floor.Goals as goal
 pub returns-clause-under : goal.returns-clause-under
 returns-clause-under c =
     let b = c.args.self.now in
-    subst (IsFloor (batches (parameters_of b)) c.args.frame c.args.row.now c.args.at) (sym c.floor.ensures.own) (own_steps (batches (parameters_of b)) (batches_laws b) c.args.frame c.args.row.now c.args.at)
+    subst (IsFloor (batches (parameters_of b)) c.args.frame c.args.row.now c.args.at) (sym c.floor.ensures.own)
+    (own_steps (batches (parameters_of b)) (batches_laws b) c.args.frame c.args.row.now c.args.at)

@@ -8,7 +8,8 @@ use Rattle.bounds.proofs.releases.mark_rises.Goals as goal
 pub returns-then-after-last-clause-past : goal.returns-then-after-last-clause-past
 returns-then-after-last-clause-past c =
     let past = c.args.after + length c.args.marks.now in
-    least_past_none (is_rise c.args.row.now) c.args.last past past (λ i low high. absurd (omega (arith, c.if-after-last.true))) (omega arith)
+    least_past_none (is_rise c.args.row.now) c.args.last past past
+    (λ i low high. absurd (omega (arith, c.if-after-last.true))) (omega arith)
 
 pub loop-place-preserved : goal.loop-place-preserved
 loop-place-preserved c =
@@ -18,8 +19,10 @@ loop-place-preserved c =
     let later = c.args.after + 1 + (c.loop-place.place + c.args.row.now.period) in
     let next = period_later c.args.row.now now later known.rise (omega arith) in
     let near : now ≤ c.args.last = omega (arith, c.loop-place-test.true, c.min-end.ensures) in
-    let small : c.loop-place.place < length c.args.marks.now = omega (arith, c.loop-place-test.true, c.min-end.ensures) in
-    let set = marked_set c.loop-place.place known.marked (up_to_holds rise c.args.last now near known.rise) refl small in
+    let small : c.loop-place.place < length c.args.marks.now =
+    omega (arith, c.loop-place-test.true, c.min-end.ensures) in
+    let set = marked_set c.loop-place.place known.marked
+    (up_to_holds rise c.args.last now near known.rise) refl small in
     record {
       rise = next.holds;
       marked = marked_to rise c.args.last _ set next (omega arith) (omega (arith, next.after));
@@ -42,5 +45,6 @@ returns-then-place-room-clause-past c =
 pub returns-else-place-room-clause-past : goal.returns-else-place-room-clause-past
 returns-else-place-room-clause-past c =
     let past = c.args.after + length c.args.marks.now in
-    let none = λ (i : ℕ) (low : past < i) (high : i ≤ c.args.last). c.loop-place.invariant.none i low (omega (arith, c.if-place-room.false)) in
+    let none = λ (i : ℕ) (low : past < i) (high : i ≤ c.args.last).
+    c.loop-place.invariant.none i low (omega (arith, c.if-place-room.false)) in
     least_past_none (is_rise c.args.row.now) c.args.last past past none (omega arith)

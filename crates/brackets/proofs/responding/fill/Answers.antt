@@ -23,8 +23,11 @@ pub returns : goal.returns
 returns c =
     let rows = c.args.rows.now in
     let i = c.loop-i.i in
-    let whole : i - 0 ≡ length (responses_of rows) = omega (arith, length_responses_below [] rows, c.loop-i-test.false, c.loop-i.invariant.within) in
+    let whole : i - 0 ≡ length (responses_of rows) =
+    omega (arith, length_responses_below [] rows, c.loop-i-test.false, c.loop-i.invariant.within) in
     record {
       filled = put_all c.args.list.now (responses_of rows) 0 c.loop-i.list i c.loop-i.invariant.put whole;
-      stay = λ k d outside. c.loop-i.invariant.stay k d (outside_end 0 (length rows) i k (omega (arith, c.loop-i.invariant.within)) outside);
+      stay = λ k d outside.
+          c.loop-i.invariant.stay k d
+          (outside_end 0 (length rows) i k (omega (arith, c.loop-i.invariant.within)) outside);
     }

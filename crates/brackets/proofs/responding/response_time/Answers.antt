@@ -11,7 +11,9 @@ use Rattle.brackets.proofs.responding.response_time.Goals as goal
 pub returns-clause-answered : goal.returns-clause-answered
 returns-clause-answered c =
     let many = length c.args.above.now in
-    ap gives c.respond.ensures ∙ sym (passes_on (ltb most_above many) FullTable 0 (gives (response c.args.row.now c.args.above.now)) (le-ltb most_above many (omega (arith, c.if-above-ge-MOST_ROWS.false))))
+    ap gives c.respond.ensures
+    ∙ sym (passes_on (ltb most_above many) FullTable 0 (gives (response c.args.row.now c.args.above.now))
+    (le-ltb most_above many (omega (arith, c.if-above-ge-MOST_ROWS.false))))
 
 pub returns-clause-fixed : goal.returns-clause-fixed
 returns-clause-fixed c = responds_so c.args.row.now c.args.above.now _ c.respond.ensures

@@ -9,6 +9,8 @@ use Rattle.findings.proofs.recounting.fill.Given as goal
 abbrev pub invariant-loop-i : goal.invariant-loop-i
 invariant-loop-i g l = record {
   within : l.i - l.from ≤ length l.rows - l.from;
-  put : map tells l.list ≡ paste (map tells l.initial.list) l.from (drop l.from (findings_of (g.B.Bound.meaning l.bound) l.frame l.rows)) (l.i - l.from);
+  put : map tells l.list
+      ≡ paste (map tells l.initial.list) l.from (drop l.from (findings_of (g.B.Bound.meaning l.bound) l.frame l.rows))
+      (l.i - l.from);
   stay : StaysOutside l.from l.i l.initial.list l.list;
 }

@@ -11,5 +11,6 @@ returns g c =
     let d = c.args.demand.now in
     let told = all_told (lent_load d) (lent_window d) c.in_ok-kept.kept (window_near d.row.now) kept.thinned.within in
     IfOk-weaker c.draw_points.result _ _
-    (λ points drawn. record { kept = c.in_ok-kept.kept; thinned = kept.thinned; rising = kept.rising; drawn = drawn ∙ told })
+    (λ points drawn.
+    record { kept = c.in_ok-kept.kept; thinned = kept.thinned; rising = kept.rising; drawn = drawn ∙ told })
     c.draw_points.ensures

@@ -11,5 +11,6 @@ loop-next-preserved g c =
     record {
       within = next.within;
       few = omega (arith, c.loop-next.invariant.few, next.after);
-      counted = count_next (is_tested (lent_load d) (lent_window d)) c.loop-next.at (lent_window d) c.in-Some.next c.loop-next.points next c.loop-next.invariant.counted;
+      counted = count_next (is_tested (lent_load d) (lent_window d)) c.loop-next.at
+          (lent_window d) c.in-Some.next c.loop-next.points next c.loop-next.invariant.counted;
     }

@@ -16,5 +16,6 @@ returns-clause-thinned g c =
     let many : btree_set_len c.loop-rest.kept ≤ 720 + 3 * length rests = omega (arith, all, done.few) in
     let end = subst (Draws c.keep.new.kept) c.window-window.ensures last.kept in
     let within = subst (λ w. DrawsWithin w c.keep.new.kept) c.window-window.ensures last.within in
-    thinned _ (lent_window d) rests c.in_ok-kept.kept c.loop-rest.kept c.keep.new.kept (window_some d.row.now) c.in_ok-kept.ensures.firsts done.more
+    thinned _ (lent_window d) rests c.in_ok-kept.kept c.loop-rest.kept c.keep.new.kept
+    (window_some d.row.now) c.in_ok-kept.ensures.firsts done.more
     (λ k few. done.decided k (omega (arith, all, few))) many last.more end within last.few

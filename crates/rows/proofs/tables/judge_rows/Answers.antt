@@ -15,8 +15,10 @@ nothing = record { work = 0; deadline = 0; period = 0; jitter = 0 }
 
 pub unwrap-requires : goal.unwrap-requires
 unwrap-requires c =
-    let few = first_passes (ltb most_rows (length c.args.numbers.now)) FullTable 0 tt _ c.in_ok-check_table.ensures.answered in
-    not_refused row_flaws c.args.numbers.now c.loop-row.row-index 0 nothing c.judge.result c.judge.ensures c.loop-row-test.true
+    let few = first_passes
+    (ltb most_rows (length c.args.numbers.now)) FullTable 0 tt _ c.in_ok-check_table.ensures.answered in
+    not_refused row_flaws c.args.numbers.now c.loop-row.row-index 0 nothing c.judge.result c.judge.ensures
+    c.loop-row-test.true
     (subst (λ flaws. Passes (table_flaw_checks flaws c.args.numbers.now)) c.row_flaws.ensures few.1)
 
 pub returns : goal.returns

@@ -9,12 +9,16 @@ loop-place-init c = behind_is (config_of c.args.form) c.args.text.now
 
 pub loop-place-preserved : goal.loop-place-preserved
 loop-place-preserved c =
-    goes_on (config_of c.args.form) (state_of c.loop-place.stand) (state_of c.in-Some.next) c.args.text.now c.loop-place.place _ (omega arith) c.loop-place.invariant c.in-Some.ensures.0 c.in-Some.ensures.1
+    goes_on (config_of c.args.form) (state_of c.loop-place.stand)
+    (state_of c.in-Some.next) c.args.text.now c.loop-place.place _
+    (omega arith) c.loop-place.invariant c.in-Some.ensures.0 c.in-Some.ensures.1
 
 pub returns-in-None-clause-left : goal.returns-in-None-clause-left
 returns-in-None-clause-left c =
-    ended_there (config_of c.args.form) (state_of c.loop-place.stand) c.args.text.now c.loop-place.place _ (omega arith) c.loop-place.invariant c.in-None.ensures
+    ended_there (config_of c.args.form) (state_of c.loop-place.stand) c.args.text.now c.loop-place.place _
+    (omega arith) c.loop-place.invariant c.in-None.ensures
 
 pub returns-clause-left : goal.returns-clause-left
 returns-clause-left c =
-    ended_all (config_of c.args.form) (state_of c.loop-place.stand) c.args.text.now c.loop-place.place (omega arith) c.loop-place.invariant
+    ended_all (config_of c.args.form) (state_of c.loop-place.stand) c.args.text.now c.loop-place.place
+    (omega arith) c.loop-place.invariant

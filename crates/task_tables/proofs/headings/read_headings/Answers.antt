@@ -7,7 +7,8 @@ use Rattle.task_tables.proofs.Named.{named_twice, unnamed}
 use Rattle.task_tables.proofs.Tellings.{tells, told_again, told_behind, told_none}
 
 pub loop-index-init : goal.loop-index-init
-loop-index-init c = rw c.new-columns.ensures.items (record { named = refl; once = distinct_none; count = refl; told = refl })
+loop-index-init c =
+    rw c.new-columns.ensures.items (record { named = refl; once = distinct_none; count = refl; told = refl })
 
 pub loop-index-preserved : goal.loop-index-preserved
 loop-index-preserved c =
@@ -28,24 +29,28 @@ loop-index-preserved c =
     })
 
 pub returns-in_default-clause-refused : goal.returns-in_default-clause-refused
-returns-in_default-clause-refused c misread = unnamed c.args.headings.now c.loop-index.index _ (omega arith) (sym c.named.ensures ∙ c.in_default.is)
+returns-in_default-clause-refused c misread =
+    unnamed c.args.headings.now c.loop-index.index _ (omega arith) (sym c.named.ensures ∙ c.in_default.is)
 
 pub returns-in_default-clause-told : goal.returns-in_default-clause-told
 returns-in_default-clause-told c =
     let inv = c.loop-index.invariant in
-    let first = told_none c.args.line c.loop-index.columns.items c.args.headings.now c.loop-index.index _ (omega arith) inv.count (sym c.named.ensures ∙ c.in_default.is) in
+    let first = told_none c.args.line c.loop-index.columns.items c.args.headings.now c.loop-index.index _
+    (omega arith) inv.count (sym c.named.ensures ∙ c.in_default.is) in
     tells _ _ c.in_ok-none.none _ (inv.told ∙ first) c.in_ok-none.ensures c.into.ensures
 
 pub returns-then-has-clause-refused : goal.returns-then-has-clause-refused
 returns-then-has-clause-refused c misread =
     let has : has_column c.loop-index.columns.items c.in-Some.column ≡ true =
     ap (λ cs. has_column cs c.in-Some.column) (sym c.as_slice.ensures.value) ∙ sym c.has.ensures ∙ c.if-has.true in
-    named_twice c.args.headings.now c.loop-index.index _ c.loop-index.columns.items c.in-Some.column (omega arith) c.loop-index.invariant.named (sym c.named.ensures ∙ c.in-Some.is) has
+    named_twice c.args.headings.now c.loop-index.index _ c.loop-index.columns.items c.in-Some.column
+    (omega arith) c.loop-index.invariant.named (sym c.named.ensures ∙ c.in-Some.is) has
 
 pub returns-then-has-clause-told : goal.returns-then-has-clause-told
 returns-then-has-clause-told c =
     let inv = c.loop-index.invariant in
     let has : has_column c.loop-index.columns.items c.in-Some.column ≡ true =
     ap (λ cs. has_column cs c.in-Some.column) (sym c.as_slice.ensures.value) ∙ sym c.has.ensures ∙ c.if-has.true in
-    let first = told_again c.args.line c.loop-index.columns.items c.args.headings.now c.loop-index.index _ c.in-Some.column (omega arith) inv.count (sym c.named.ensures ∙ c.in-Some.is) has in
+    let first = told_again c.args.line c.loop-index.columns.items c.args.headings.now c.loop-index.index _
+    c.in-Some.column (omega arith) inv.count (sym c.named.ensures ∙ c.in-Some.is) has in
     tells _ _ c.in_ok-again.again _ (inv.told ∙ first) c.in_ok-again.ensures c.into-then-has.ensures

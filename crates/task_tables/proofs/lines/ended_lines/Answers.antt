@@ -9,12 +9,15 @@ loop-byte-preserved c =
       | then-ends_line_behind w ↦
           rw (w.ended-is, w.previous-is) (record {
             few = omega (arith, c.loop-byte.invariant.few);
-            count = one_ended c.args.text.now c.loop-byte.byte-index _ c.loop-byte.previous c.loop-byte.ended _ (omega arith) (sym c.ends_line_behind.ensures ∙ w.if-ends_line_behind.true) c.loop-byte.invariant.count;
+            count = one_ended c.args.text.now c.loop-byte.byte-index _ c.loop-byte.previous c.loop-byte.ended _
+                (omega arith) (sym c.ends_line_behind.ensures ∙ w.if-ends_line_behind.true) c.loop-byte.invariant.count;
           })
       | else-ends_line_behind w ↦
           rw (w.ended-is, w.previous-is) (record {
             few = omega (arith, c.loop-byte.invariant.few);
-            count = none_ended c.args.text.now c.loop-byte.byte-index _ c.loop-byte.previous c.loop-byte.ended _ (omega arith) (sym c.ends_line_behind.ensures ∙ w.if-ends_line_behind.false) c.loop-byte.invariant.count;
+            count = none_ended c.args.text.now c.loop-byte.byte-index _ c.loop-byte.previous c.loop-byte.ended _
+                (omega arith)
+                (sym c.ends_line_behind.ensures ∙ w.if-ends_line_behind.false) c.loop-byte.invariant.count;
           })
     ]
 

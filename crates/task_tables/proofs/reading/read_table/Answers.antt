@@ -24,14 +24,17 @@ loop-record-preserved c =
     let i = c.loop-record.record-index in
     let fields = map (λ (f : Bor (List ℕ)). f.now) c.as_slice-row.result.now in
     let asked = says_any c.as_slice-row.result.now ∙ sym c.says.ensures in
-    let read = ap (map (λ (f : Bor (List ℕ)). f.now)) c.as_slice-row.ensures.value ∙ c.in_ok-fields.ensures ∙ ap (λ (r : Record). fields_in c.args.form (fields_of r)) c.record-item.is in
+    let read = ap (map (λ (f : Bor (List ℕ)). f.now)) c.as_slice-row.ensures.value ∙ c.in_ok-fields.ensures
+    ∙ ap (λ (r : Record). fields_in c.args.form (fields_of r)) c.record-item.is in
     let left = c.behind_one-left.ensures.left ∙ ap (behind_one cfg) inv.left ∙ sym (behind_next cfg text i) in
-    let within : length c.behind_one-left.result.now ≤ length text = omega (arith, c.behind_one-left.ensures.shorter, inv.within) in
+    let within : length c.behind_one-left.result.now ≤ length text =
+    omega (arith, c.behind_one-left.ensures.shorter, inv.within) in
     elim c.if-says.branch [
       | then-says+in_ok-read_row w ↦
           let row = row_at w.line_of-line.result c.as_slice-row.result.now in
           let line = w.line_of-line.ensures ∙ ap (line_of text) inv.left in
-          let more = row_said c.args.form text c.args.records.now i c.record-item.result row (omega arith) line read (asked ∙ w.if-says.true) in
+          let more = row_said c.args.form text c.args.records.now i c.record-item.result row (omega arith) line read
+          (asked ∙ w.if-says.true) in
           rw w.table-is (record {
             left = left;
             within = within;
@@ -39,7 +42,8 @@ loop-record-preserved c =
             taken = rw more (w.in_ok-read_row.ensures.taken _ inv.taken);
           })
       | else-says w ↦
-          let same = row_blank c.args.form text c.args.records.now i c.record-item.result fields (omega arith) read (asked ∙ w.if-says.false) in
+          let same = row_blank c.args.form text c.args.records.now i c.record-item.result fields (omega arith) read
+          (asked ∙ w.if-says.false) in
           rw w.table-is (record {
             left = left;
             within = within;
@@ -52,10 +56,12 @@ pub returns-in_err-read_row-clause-refused : goal.returns-in_err-read_row-clause
 returns-in_err-read_row-clause-refused c =
     let inv = c.loop-record.invariant in
     let asked = says_any c.as_slice-row.result.now ∙ sym c.says.ensures in
-    let read = ap (map (λ (f : Bor (List ℕ)). f.now)) c.as_slice-row.ensures.value ∙ c.in_ok-fields.ensures ∙ ap (λ (r : Record). fields_in c.args.form (fields_of r)) c.record-item.is in
+    let read = ap (map (λ (f : Bor (List ℕ)). f.now)) c.as_slice-row.ensures.value ∙ c.in_ok-fields.ensures
+    ∙ ap (λ (r : Record). fields_in c.args.form (fields_of r)) c.record-item.is in
     let row = row_at c.line_of-line.result c.as_slice-row.result.now in
     let line = c.line_of-line.ensures ∙ ap (line_of c.args.text.now) inv.left in
-    let around = rows_around c.args.form c.args.text.now c.args.records.now c.loop-record.record-index c.record-item.result row (omega arith) line read (asked ∙ c.if-says.true) in
+    let around = rows_around c.args.form c.args.text.now c.args.records.now c.loop-record.record-index
+    c.record-item.result row (omega arith) line read (asked ∙ c.if-says.true) in
     let p = err_from_is_err_and c.from_residual-in_err-read_row.result c.from_residual-in_err-read_row.ensures.1 in
     rw (p.1, p.2) (λ misread. rw around (c.in_err-read_row.ensures.refused misread _ _ inv.read))
 
@@ -63,13 +69,16 @@ pub returns-in_err-read_row-clause-told : goal.returns-in_err-read_row-clause-to
 returns-in_err-read_row-clause-told c =
     let inv = c.loop-record.invariant in
     let asked = says_any c.as_slice-row.result.now ∙ sym c.says.ensures in
-    let read = ap (map (λ (f : Bor (List ℕ)). f.now)) c.as_slice-row.ensures.value ∙ c.in_ok-fields.ensures ∙ ap (λ (r : Record). fields_in c.args.form (fields_of r)) c.record-item.is in
+    let read = ap (map (λ (f : Bor (List ℕ)). f.now)) c.as_slice-row.ensures.value ∙ c.in_ok-fields.ensures
+    ∙ ap (λ (r : Record). fields_in c.args.form (fields_of r)) c.record-item.is in
     let row = row_at c.line_of-line.result c.as_slice-row.result.now in
     let line = c.line_of-line.ensures ∙ ap (line_of c.args.text.now) inv.left in
-    let around = rows_around c.args.form c.args.text.now c.args.records.now c.loop-record.record-index c.record-item.result row (omega arith) line read (asked ∙ c.if-says.true) in
+    let around = rows_around c.args.form c.args.text.now c.args.records.now c.loop-record.record-index
+    c.record-item.result row (omega arith) line read (asked ∙ c.if-says.true) in
     let p = err_from_is_err_and c.from_residual-in_err-read_row.result c.from_residual-in_err-read_row.ensures.1 in
     rw (p.1, p.2) (rw around (c.in_err-read_row.ensures.told c.args.text.now _ _ inv.taken))
 
 pub returns-clause-read : goal.returns-clause-read
 returns-clause-read c =
-    subst (λ rs. AreRead (rows_in c.args.form c.args.text.now (map fields_of rs)) c.loop-record.table) (take_all c.loop-record.record-index c.args.records.now (omega arith)) c.loop-record.invariant.read
+    subst (λ rs. AreRead (rows_in c.args.form c.args.text.now (map fields_of rs)) c.loop-record.table)
+    (take_all c.loop-record.record-index c.args.records.now (omega arith)) c.loop-record.invariant.read

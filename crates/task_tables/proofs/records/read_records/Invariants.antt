@@ -14,5 +14,6 @@ invariant-loop-row l =
       turns : 0 < l.row-iterator.left;
       config : l.row-iterator.rdr.config ≡ config_of l.fn.form;
       reached : (y : List ℕ) × (source_of (λ s. Some s.now) l.row-iterator.rdr ≡ Some y)
-          × Reached (config_of l.fn.form) st.StartRecord (strip_bom l.fn.text) (map fields_of l.rows.items) l.row-iterator.rdr.state y;
+          × Reached (config_of l.fn.form) st.StartRecord (strip_bom l.fn.text)
+          (map fields_of l.rows.items) l.row-iterator.rdr.state y;
     }

@@ -6,4 +6,5 @@ use Rattle.task_tables.proofs.tasks.misread.Given as goal
 abbrev pub invariant-loop-index : goal.invariant-loop-index
 invariant-loop-index l =
     misfit_told l.columns (row_at l.line l.fields)
-    ≡ fields_told l.columns (row_at l.line l.fields) (l.index + 1) (drop l.index l.columns) (map (λ (f : Bor (List ℕ)). f.now) (drop l.index l.fields))
+    ≡ fields_told l.columns (row_at l.line l.fields) (l.index + 1) (drop l.index l.columns)
+    (map (λ (f : Bor (List ℕ)). f.now) (drop l.index l.fields))

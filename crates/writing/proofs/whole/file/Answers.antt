@@ -26,56 +26,106 @@ returns-clause-followed c = followed
 
 pub returns-in_err-check_whole-clause-always : goal.returns-in_err-check_whole-clause-always
 returns-in_err-check_whole-clause-always g lawful room =
-    absurd (never_refused (contents g.args.heading g.args.rows.now g.args.findings.now) (length g.args.buffer.now) tt lawful room _ _ g.in_err-check_whole.ensures)
+    absurd (never_refused (contents g.args.heading g.args.rows.now g.args.findings.now)
+    (length g.args.buffer.now) tt lawful room _ _ g.in_err-check_whole.ensures)
 
 pub returns-in_err-check_whole-clause-again : goal.returns-in_err-check_whole-clause-again
 returns-in_err-check_whole-clause-again g bytes fits room =
-    absurd (never_refused (contents g.args.heading g.args.rows.now g.args.findings.now) (length g.args.buffer.now) tt fits.0 (omega (arith, room, ap length fits.1)) _ _ g.in_err-check_whole.ensures)
+    absurd (never_refused (contents g.args.heading g.args.rows.now g.args.findings.now)
+    (length g.args.buffer.now) tt fits.0 (omega (arith, room, ap length fits.1)) _ _ g.in_err-check_whole.ensures)
 
 pub put_rows-leaf-requires-clause-on : goal.put_rows-leaf-requires-clause-on
 put_rows-leaf-requires-clause-on c =
-    let on = (passed c.args.heading.frame c.args.rows.now c.args.findings.now (length c.args.buffer.now) c.in_ok-check_whole.ensures).on in
+    let on = (passed c.args.heading.frame c.args.rows.now c.args.findings.now
+    (length c.args.buffer.now) c.in_ok-check_whole.ensures).on in
     subst (λ h. AllPass (is_on_frame h.ticks) c.args.rows.now) (sym (ap frame_in c.opened.ensures.answered)) on
 
 pub put_findings-leaf-requires-clause-even : goal.put_findings-leaf-requires-clause-even
 put_findings-leaf-requires-clause-even c =
-    let even = (passed c.args.heading.frame c.args.rows.now c.args.findings.now (length c.args.buffer.now) c.in_ok-check_whole.ensures).even in
+    let even = (passed c.args.heading.frame c.args.rows.now c.args.findings.now
+    (length c.args.buffer.now) c.in_ok-check_whole.ensures).even in
     let rows = (rows_filed c.args.rows.now c.put_rows-leaf.ensures).rows in
     omega (arith, even, rows, ap rows_in c.turn.ensures, ap rows_in c.opened.ensures.answered)
 
 pub put_findings-leaf-requires-clause-good : goal.put_findings-leaf-requires-clause-good
-put_findings-leaf-requires-clause-good c = (passed c.args.heading.frame c.args.rows.now c.args.findings.now (length c.args.buffer.now) c.in_ok-check_whole.ensures).good
+put_findings-leaf-requires-clause-good c =
+    (passed c.args.heading.frame c.args.rows.now c.args.findings.now
+    (length c.args.buffer.now) c.in_ok-check_whole.ensures).good
 
 pub put_findings-leaf-requires-clause-room : goal.put_findings-leaf-requires-clause-room
 put_findings-leaf-requires-clause-room c =
-    let checks = passed c.args.heading.frame c.args.rows.now c.args.findings.now (length c.args.buffer.now) c.in_ok-check_whole.ensures in
+    let checks = passed c.args.heading.frame c.args.rows.now c.args.findings.now
+    (length c.args.buffer.now) c.in_ok-check_whole.ensures in
     let rows = rows_filed c.args.rows.now c.put_rows-leaf.ensures in
-    omega (arith, checks.room, checks.even, rows.place, rows.size, filed_length c.opened.ensures.filed, ap place_of c.turn.ensures, ap place_of c.opened.ensures.answered)
+    omega (
+      arith,
+      checks.room,
+      checks.even,
+      rows.place,
+      rows.size,
+      filed_length c.opened.ensures.filed,
+      ap place_of c.turn.ensures,
+      ap place_of c.opened.ensures.answered,
+    )
 
 pub put_end-leaf-requires-clause-even : goal.put_end-leaf-requires-clause-even
 put_end-leaf-requires-clause-even c =
-    let even = (passed c.args.heading.frame c.args.rows.now c.args.findings.now (length c.args.buffer.now) c.in_ok-check_whole.ensures).even in
-    let filed = (subst (λ q. FilesAll q c.put_rows-leaf.new.buffer (map finding c.args.findings.now) c.put_findings-leaf.result c.put_findings-leaf.new.buffer) c.turn.ensures c.put_findings-leaf.ensures) in
-    omega (arith, even, counted_rows c.args.rows.now c.args.findings.now c.opened.ensures.answered c.put_rows-leaf.ensures filed, counted_findings c.args.rows.now c.args.findings.now c.opened.ensures.answered c.put_rows-leaf.ensures filed)
+    let even = (passed c.args.heading.frame c.args.rows.now c.args.findings.now
+    (length c.args.buffer.now) c.in_ok-check_whole.ensures).even in
+    let filed = (subst
+    (λ q. FilesAll q c.put_rows-leaf.new.buffer
+    (map finding c.args.findings.now) c.put_findings-leaf.result c.put_findings-leaf.new.buffer) c.turn.ensures
+    c.put_findings-leaf.ensures) in
+    omega (
+      arith,
+      even,
+      counted_rows c.args.rows.now c.args.findings.now c.opened.ensures.answered c.put_rows-leaf.ensures filed,
+      counted_findings c.args.rows.now c.args.findings.now c.opened.ensures.answered c.put_rows-leaf.ensures filed,
+    )
 
 pub put_end-leaf-requires-clause-room : goal.put_end-leaf-requires-clause-room
 put_end-leaf-requires-clause-room c =
-    let checks = passed c.args.heading.frame c.args.rows.now c.args.findings.now (length c.args.buffer.now) c.in_ok-check_whole.ensures in
+    let checks = passed c.args.heading.frame c.args.rows.now c.args.findings.now
+    (length c.args.buffer.now) c.in_ok-check_whole.ensures in
     let rows = rows_filed c.args.rows.now c.put_rows-leaf.ensures in
     let findings = findings_filed c.args.findings.now c.put_findings-leaf.ensures in
-    omega (arith, checks.room, checks.even, rows.place, rows.size, findings.place, findings.size, filed_length c.opened.ensures.filed, ap place_of c.turn.ensures, ap place_of c.opened.ensures.answered)
+    omega (
+      arith,
+      checks.room,
+      checks.even,
+      rows.place,
+      rows.size,
+      findings.place,
+      findings.size,
+      filed_length c.opened.ensures.filed,
+      ap place_of c.turn.ensures,
+      ap place_of c.opened.ensures.answered,
+    )
 
 pub returns-clause-answered : goal.returns-clause-answered
 returns-clause-answered c =
-    let leaf = finished c.args.rows.now c.args.findings.now c.opened.ensures.answered c.put_rows-leaf.ensures (subst (λ q. FilesAll q c.put_rows-leaf.new.buffer (map finding c.args.findings.now) c.put_findings-leaf.result c.put_findings-leaf.new.buffer) c.turn.ensures c.put_findings-leaf.ensures) c.opened.ensures.filed c.put_end-leaf.ensures in
-    gives_length c.args.heading.frame c.args.rows.now c.args.findings.now (length c.args.buffer.now) c.place.result c.in_ok-check_whole.ensures (c.place.ensures ∙ ap place_of c.phase.ensures.answered ∙ leaf.place)
+    let leaf = finished c.args.rows.now c.args.findings.now c.opened.ensures.answered c.put_rows-leaf.ensures
+    (subst (λ q. FilesAll q c.put_rows-leaf.new.buffer
+    (map finding c.args.findings.now) c.put_findings-leaf.result c.put_findings-leaf.new.buffer) c.turn.ensures
+    c.put_findings-leaf.ensures) c.opened.ensures.filed c.put_end-leaf.ensures in
+    gives_length c.args.heading.frame c.args.rows.now c.args.findings.now
+    (length c.args.buffer.now) c.place.result c.in_ok-check_whole.ensures
+    (c.place.ensures ∙ ap place_of c.phase.ensures.answered ∙ leaf.place)
 
 pub returns-clause-filed : goal.returns-clause-filed
 returns-clause-filed c =
-    let leaf = finished c.args.rows.now c.args.findings.now c.opened.ensures.answered c.put_rows-leaf.ensures (subst (λ q. FilesAll q c.put_rows-leaf.new.buffer (map finding c.args.findings.now) c.put_findings-leaf.result c.put_findings-leaf.new.buffer) c.turn.ensures c.put_findings-leaf.ensures) c.opened.ensures.filed c.put_end-leaf.ensures in
-    subst (λ n. IsFiled (contents c.args.heading c.args.rows.now c.args.findings.now) c.args.buffer.now c.put_end-leaf.new.buffer n) (sym (c.place.ensures ∙ ap place_of c.phase.ensures.answered)) leaf.filed
+    let leaf = finished c.args.rows.now c.args.findings.now c.opened.ensures.answered c.put_rows-leaf.ensures
+    (subst (λ q. FilesAll q c.put_rows-leaf.new.buffer
+    (map finding c.args.findings.now) c.put_findings-leaf.result c.put_findings-leaf.new.buffer) c.turn.ensures
+    c.put_findings-leaf.ensures) c.opened.ensures.filed c.put_end-leaf.ensures in
+    subst (λ n. IsFiled
+    (contents c.args.heading c.args.rows.now c.args.findings.now) c.args.buffer.now c.put_end-leaf.new.buffer n)
+    (sym (c.place.ensures ∙ ap place_of c.phase.ensures.answered)) leaf.filed
 
 pub returns-clause-again : goal.returns-clause-again
 returns-clause-again g bytes fits room =
-    let leaf = finished g.args.rows.now g.args.findings.now g.opened.ensures.answered g.put_rows-leaf.ensures (subst (λ q. FilesAll q g.put_rows-leaf.new.buffer (map finding g.args.findings.now) g.put_findings-leaf.result g.put_findings-leaf.new.buffer) g.turn.ensures g.put_findings-leaf.ensures) g.opened.ensures.filed g.put_end-leaf.ensures in
+    let leaf = finished g.args.rows.now g.args.findings.now g.opened.ensures.answered g.put_rows-leaf.ensures
+    (subst (λ q. FilesAll q g.put_rows-leaf.new.buffer
+    (map finding g.args.findings.now) g.put_findings-leaf.result g.put_findings-leaf.new.buffer) g.turn.ensures
+    g.put_findings-leaf.ensures) g.opened.ensures.filed g.put_end-leaf.ensures in
     (refl, leaf.filed.bytes ∙ ap (written g.args.buffer.now 0) (sym fits.1))

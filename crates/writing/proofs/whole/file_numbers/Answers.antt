@@ -12,7 +12,12 @@ pub returns-clause-filed : goal.returns-clause-filed
 returns-clause-filed c =
     let h = c.in_ok-judge.field-0 in
     let same = given_is (heading_checks c.args.numbers 0) (heading_plain h) c.args.numbers c.in_ok-judge.ensures in
-    IfOk-weaker c.file.result _ _ (λ n filed. (contents h c.args.rows.now c.args.findings.now, record { heading = same; rows = refl; findings = refl }, filed)) c.file.ensures.filed
+    IfOk-weaker c.file.result _ _
+    (λ n filed. (
+      contents h c.args.rows.now c.args.findings.now,
+      record { heading = same; rows = refl; findings = refl },
+      filed,
+    )) c.file.ensures.filed
 
 pub returns-clause-again : goal.returns-clause-again
 returns-clause-again g bytes c fits are room =

@@ -5,4 +5,5 @@ use Rattle.writing.proofs.whole.put_findings.Given as goal
 
 -- so far the findings seen are filed
 abbrev pub invariant-loop-finding : goal.invariant-loop-finding
-invariant-loop-finding l = FilesAll l.fn.leaf l.fn.buffer (map finding (take l.finding-index l.findings)) l.leaf l.buffer
+invariant-loop-finding l =
+    FilesAll l.fn.leaf l.fn.buffer (map finding (take l.finding-index l.findings)) l.leaf l.buffer

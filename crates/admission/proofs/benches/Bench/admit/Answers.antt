@@ -9,22 +9,35 @@ pub returns-clause-does : goal.returns-clause-does
 returns-clause-does g c =
     let s = c.self.inside in
     let new = c.with_row-kept in
-    let enters = (entering s.kept c.args.rank c.args.numbers c.in_ok-row.row _ _ c.frame.ensures.answered c.in_ok-row.ensures c.len-count.ensures.answered c.len-count.ensures.judged c.if-count-eq-MOST_ROWS.false c.in_ok-check_rank.ensures) in
-    subst (λ b. Does (g.B.Bound.meaning b.bound) (Admit c.args.rank c.args.numbers) b (seen s.bound new.result) Done) c.self.view_is
-    (admits_so (g.B.Bound.meaning s.bound) s.bound s.kept c.self.invariant c.args.rank c.args.numbers c.in_ok-row.row enters new.result new.ensures.counted new.ensures.table (sym c.first_miss.ensures ∙ c.in_default.is))
+    let enters = (entering s.kept c.args.rank c.args.numbers c.in_ok-row.row _ _ c.frame.ensures.answered
+    c.in_ok-row.ensures c.len-count.ensures.answered c.len-count.ensures.judged c.if-count-eq-MOST_ROWS.false
+    c.in_ok-check_rank.ensures) in
+    subst (λ b. Does (g.B.Bound.meaning b.bound) (Admit c.args.rank c.args.numbers) b (seen s.bound new.result) Done)
+    c.self.view_is
+    (admits_so (g.B.Bound.meaning s.bound) s.bound s.kept c.self.invariant c.args.rank c.args.numbers c.in_ok-row.row
+    enters new.result new.ensures.counted new.ensures.table (sym c.first_miss.ensures ∙ c.in_default.is))
 
 pub invariant_of-self : goal.invariant_of-self
 invariant_of-self g c =
     let s = c.self.inside in
     let new = c.with_row-kept in
-    let enters = (entering s.kept c.args.rank c.args.numbers c.in_ok-row.row _ _ c.frame.ensures.answered c.in_ok-row.ensures c.len-count.ensures.answered c.len-count.ensures.judged c.if-count-eq-MOST_ROWS.false c.in_ok-check_rank.ensures) in
-    kept_with (g.B.Bound.meaning s.bound) s.bound s.kept c.self.invariant c.args.rank c.args.numbers c.in_ok-row.row enters new.result new.ensures.counted new.ensures.table (sym c.first_miss.ensures ∙ c.in_default.is)
+    let enters = (entering s.kept c.args.rank c.args.numbers c.in_ok-row.row _ _ c.frame.ensures.answered
+    c.in_ok-row.ensures c.len-count.ensures.answered c.len-count.ensures.judged c.if-count-eq-MOST_ROWS.false
+    c.in_ok-check_rank.ensures) in
+    kept_with (g.B.Bound.meaning s.bound) s.bound s.kept c.self.invariant c.args.rank c.args.numbers c.in_ok-row.row
+    enters new.result new.ensures.counted new.ensures.table (sym c.first_miss.ensures ∙ c.in_default.is)
 
 pub returns-in-Some-clause-does : goal.returns-in-Some-clause-does
 returns-in-Some-clause-does g c =
     let s = c.self.inside in
     let new = c.with_row-kept in
-    let enters = (entering s.kept c.args.rank c.args.numbers c.in_ok-row.row _ _ c.frame.ensures.answered c.in_ok-row.ensures c.len-count.ensures.answered c.len-count.ensures.judged c.if-count-eq-MOST_ROWS.false c.in_ok-check_rank.ensures) in
-    subst (λ b. Does (g.B.Bound.meaning b.bound) (Admit c.args.rank c.args.numbers) b b (Refused c.at-in-Some.result)) c.self.view_is
-    (subst (λ x. Does (g.B.Bound.meaning s.bound) (Admit c.args.rank c.args.numbers) (seen s.bound s.kept) (seen s.bound s.kept) (Refused x)) (sym c.at-in-Some.ensures)
-    (overloads_so (g.B.Bound.meaning s.bound) s.bound s.kept c.self.invariant c.args.rank c.args.numbers c.in_ok-row.row enters new.result new.ensures.counted new.ensures.table c.in-Some.place (sym c.first_miss.ensures ∙ c.in-Some.is)))
+    let enters = (entering s.kept c.args.rank c.args.numbers c.in_ok-row.row _ _ c.frame.ensures.answered
+    c.in_ok-row.ensures c.len-count.ensures.answered c.len-count.ensures.judged c.if-count-eq-MOST_ROWS.false
+    c.in_ok-check_rank.ensures) in
+    subst (λ b. Does (g.B.Bound.meaning b.bound) (Admit c.args.rank c.args.numbers) b b (Refused c.at-in-Some.result))
+    c.self.view_is
+    (subst (λ x. Does (g.B.Bound.meaning s.bound) (Admit c.args.rank c.args.numbers) (seen s.bound s.kept)
+    (seen s.bound s.kept) (Refused x)) (sym c.at-in-Some.ensures)
+    (overloads_so
+    (g.B.Bound.meaning s.bound) s.bound s.kept c.self.invariant c.args.rank c.args.numbers c.in_ok-row.row enters
+    new.result new.ensures.counted new.ensures.table c.in-Some.place (sym c.first_miss.ensures ∙ c.in-Some.is)))

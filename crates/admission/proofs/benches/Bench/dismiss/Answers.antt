@@ -14,7 +14,8 @@ invariant_of-self g c =
     let kept = c.self.inside.kept in
     let out = c.without_row-self-inside.ensures in
     let rank = ranked c.len.result c.args.rank c.in_ok-check_rank.ensures in
-    let sound = without_sound m kept.table c.args.rank (kept_sound m kept c.len.ensures.judged c.self.invariant) rank.0 (omega (arith, rank.1, c.len.ensures.answered)) in
+    let sound = without_sound m kept.table c.args.rank (kept_sound m kept c.len.ensures.judged c.self.invariant) rank.0
+    (omega (arith, rank.1, c.len.ensures.answered)) in
     let is = out.table ∙ ap (book kept.table.frame) (without_is c.args.rank kept.table.rows rank.0) in
     record {
       counted = out.counted;

@@ -24,7 +24,8 @@ bounds-as_slice-rank g c =
       rank.1,
       ap length c.rows-rows.ensures.answered,
       ap length c.as_slice.ensures.value,
-      many_kept (g.B.Bound.meaning c.self.inside.bound) kept.table.frame kept.table.rows kept.findings.items c.self.invariant.counted,
+      many_kept (g.B.Bound.meaning c.self.inside.bound) kept.table.frame kept.table.rows kept.findings.items
+          c.self.invariant.counted,
     )
 
 pub returns-clause-does : goal.returns-clause-does
@@ -37,10 +38,15 @@ returns-clause-does g c =
     let e : Finding = record { verdict = Meets 0; points = 0 } in
     let rank = ranked _ c.args.rank c.in_ok-check_rank.ensures in
     let high : c.args.rank ≤ length kept.table.rows = omega (arith, rank.1, ap length c.rows-rows.ensures.answered) in
-    let row : d ≡ get_or kept.table.rows i d = c.index-rows-rank.is ∙ ap (λ xs. get_or xs i d) c.rows-rows.ensures.answered in
-    let finding : get_or c.as_slice.result.now i e ≡ get_or kept.findings.items i e = ap (λ xs. get_or xs i e) c.as_slice.ensures.value in
-    subst (λ b. Does (g.B.Bound.meaning b.bound) (Inquire c.args.rank) b b (Found d (get_or c.as_slice.result.now i e))) c.self.view_is
-    (subst (λ x. Does m (Inquire c.args.rank) (seen s.bound kept) (seen s.bound kept) x) (ap₂ Found (sym row) (sym finding))
-    (does_so m (Inquire c.args.rank) (seen s.bound kept) (seen s.bound kept) (Found (get_or kept.table.rows i d) (get_or kept.findings.items i e))
+    let row : d ≡ get_or kept.table.rows i d =
+    c.index-rows-rank.is ∙ ap (λ xs. get_or xs i d) c.rows-rows.ensures.answered in
+    let finding : get_or c.as_slice.result.now i e ≡ get_or kept.findings.items i e =
+    ap (λ xs. get_or xs i e) c.as_slice.ensures.value in
+    subst (λ b. Does (g.B.Bound.meaning b.bound) (Inquire c.args.rank) b b (Found d (get_or c.as_slice.result.now i e)))
+    c.self.view_is
+    (subst (λ x. Does m (Inquire c.args.rank) (seen s.bound kept) (seen s.bound kept) x)
+    (ap₂ Found (sym row) (sym finding))
+    (does_so m (Inquire c.args.rank) (seen s.bound kept) (seen s.bound kept)
+    (Found (get_or kept.table.rows i d) (get_or kept.findings.items i e))
     (row_found (plain (get_or kept.table.rows i d)) (tells (get_or kept.findings.items i e)))
     (inquired m kept c.self.invariant c.args.rank rank.0 high d e) refl (kept_is m s.bound kept c.self.invariant)))

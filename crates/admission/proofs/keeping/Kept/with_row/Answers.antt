@@ -11,15 +11,27 @@ use Rattle.admission.proofs.keeping.Kept.with_row.Goals as goal
 pub one_more-findings-requires-clause-room : goal.one_more-findings-requires-clause-room
 one_more-findings-requires-clause-room g c =
     let kept = c.args.self.now in
-    omega (arith, many_kept (g.B.Bound.meaning c.args.bound.now) kept.table.frame kept.table.rows kept.findings.items c.requires.counted, c.requires.room)
+    omega (
+      arith,
+      many_kept (g.B.Bound.meaning c.args.bound.now) kept.table.frame kept.table.rows kept.findings.items
+          c.requires.counted,
+      c.requires.room,
+    )
 
 pub one_more-findings-requires-clause-high : goal.one_more-findings-requires-clause-high
 one_more-findings-requires-clause-high g c =
     let kept = c.args.self.now in
-    omega (arith, many_kept (g.B.Bound.meaning c.args.bound.now) kept.table.frame kept.table.rows kept.findings.items c.requires.counted, c.requires.high)
+    omega (
+      arith,
+      many_kept (g.B.Bound.meaning c.args.bound.now) kept.table.frame kept.table.rows kept.findings.items
+          c.requires.counted,
+      c.requires.high,
+    )
 
 -- the table with the row
-with_is : (g : _) (c : goal.After-findings-1 g) → c.put_in.new.self ≡ book c.args.self.now.table.frame (insert c.args.self.now.table.rows (c.args.rank - 1) c.args.row)
+with_is : (g : _) (c : goal.After-findings-1 g)
+    → c.put_in.new.self
+    ≡ book c.args.self.now.table.frame (insert c.args.self.now.table.rows (c.args.rank - 1) c.args.row)
 with_is g c =
     subst (λ b. c.put_in.new.self ≡ book b.frame (insert b.rows (c.args.rank - 1) c.args.row)) c.copy-table.ensures
     (when_ok _ _ c.put_in.result c.unwrap.result c.unwrap.ensures c.put_in.ensures.put)
@@ -27,7 +39,12 @@ with_is g c =
 pub count_from-requires-clause-within : goal.count_from-requires-clause-within
 count_from-requires-clause-within g c =
     let kept = c.args.self.now in
-    omega (arith, ap (λ b. length b.rows) (with_is g c), length_insert kept.table.rows (c.args.rank - 1) c.args.row (omega (arith, c.requires.low, c.requires.high)), c.requires.high)
+    omega (
+      arith,
+      ap (λ b. length b.rows) (with_is g c),
+      length_insert kept.table.rows (c.args.rank - 1) c.args.row (omega (arith, c.requires.low, c.requires.high)),
+      c.requires.high,
+    )
 
 pub count_from-requires-clause-size : goal.count_from-requires-clause-size
 count_from-requires-clause-size g c =
@@ -35,7 +52,8 @@ count_from-requires-clause-size g c =
     omega (
       arith,
       c.one_more-findings.ensures.size,
-      many_kept (g.B.Bound.meaning c.args.bound.now) kept.table.frame kept.table.rows kept.findings.items c.requires.counted,
+      many_kept (g.B.Bound.meaning c.args.bound.now) kept.table.frame kept.table.rows kept.findings.items
+          c.requires.counted,
       ap (λ b. length b.rows) (with_is g c),
       length_insert kept.table.rows (c.args.rank - 1) c.args.row (omega (arith, c.requires.low, c.requires.high)),
     )
@@ -44,6 +62,7 @@ pub count_from-requires-clause-known : goal.count_from-requires-clause-known
 count_from-requires-clause-known g c =
     let m = g.B.Bound.meaning c.args.bound.now in
     let kept = c.args.self.now in
-    known_with m kept.table.frame kept.table.rows (c.args.rank - 1) c.args.row kept.findings.items c.one_more-findings.result.items
+    known_with m kept.table.frame kept.table.rows
+    (c.args.rank - 1) c.args.row kept.findings.items c.one_more-findings.result.items
     (omega (arith, c.requires.low, c.requires.high)) c.requires.counted c.one_more-findings.ensures.before
     ∙ ap (λ b. take (c.args.rank - 1) (findings_of m b.frame b.rows)) (sym (with_is g c))

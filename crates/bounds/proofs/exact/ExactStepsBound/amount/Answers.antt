@@ -6,4 +6,5 @@ pub overflow_mul-result : goal.overflow_mul-result
 overflow_mul-result c =
     let row = c.args.row.now in
     let ask = asked_tells c.args.frame row c.args.at (sym c.if-asked.ensures) in
-    rw (c.from.ensures, c.steps.ensures.answered) (record { fits = omega (arith, steps_fit c.args.frame row c.args.at ask.frame ask.near) })
+    rw (c.from.ensures, c.steps.ensures.answered)
+    (record { fits = omega (arith, steps_fit c.args.frame row c.args.at ask.frame ask.near) })

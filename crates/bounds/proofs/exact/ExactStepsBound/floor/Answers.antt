@@ -7,4 +7,5 @@ use Rattle.bounds.proofs.exact.ExactStepsBound.floor.Goals as goal
 
 pub returns-clause-under : goal.returns-clause-under
 returns-clause-under c =
-    subst (IsFloor exact_steps c.args.frame c.args.row.now c.args.at) (sym c.steps_floor.ensures) (own_steps exact_steps exact_laws c.args.frame c.args.row.now c.args.at)
+    subst (IsFloor exact_steps c.args.frame c.args.row.now c.args.at) (sym c.steps_floor.ensures)
+    (own_steps exact_steps exact_laws c.args.frame c.args.row.now c.args.at)

@@ -6,8 +6,10 @@ use Rattle.bounds.proofs.exact.ExactStepsBound.next_corner.Goals as goal
 
 pub returns-then-corner-le-HORIZON : goal.returns-then-corner-le-HORIZON
 returns-then-corner-le-HORIZON c =
-    asked_some (is_rise c.args.row.now) _ c.args.after horizon _ c.next_rise-corner.result c.if-not-asked.ensures c.next_rise-corner.ensures c.if-corner-le-HORIZON.true
+    asked_some (is_rise c.args.row.now) _ c.args.after horizon _ c.next_rise-corner.result c.if-not-asked.ensures
+    c.next_rise-corner.ensures c.if-corner-le-HORIZON.true
 
 pub returns-else-corner-le-HORIZON : goal.returns-else-corner-le-HORIZON
 returns-else-corner-le-HORIZON c =
-    asked_none (is_rise c.args.row.now) _ c.args.after horizon c.if-not-asked.ensures (λ i low high. c.next_rise-corner.ensures.none i low (omega arith))
+    asked_none (is_rise c.args.row.now) _ c.args.after horizon c.if-not-asked.ensures
+    (λ i low high. c.next_rise-corner.ensures.none i low (omega arith))

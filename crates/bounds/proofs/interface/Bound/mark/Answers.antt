@@ -1,6 +1,7 @@
 use Rattle.std.proofs.Common.{◌+◌, ◌-◌, length, Some, None, arith}
 use Rattle.rows.specs.Times.{horizon}
-use Rattle.bounds.proofs.Marking.{own_corner, marked_set, marked_all, marked_to, marked_last, up_to_holds, least_past, least_past_none}
+use Rattle.bounds.proofs.Marking.{own_corner, marked_set, marked_all, marked_to, marked_last, up_to_holds, least_past}
+use Rattle.bounds.proofs.Marking.{least_past_none}
 use Rattle.bounds.proofs.interface.Bound.mark.Goals as goal
 
 pub overflow_sub-place : goal.overflow_sub-place
@@ -30,7 +31,8 @@ returns-then-place-marks-clause-past g c =
     let told = own_corner (g.Self.Bound.meaning c.args.self.now) c.args.row.now in
     let first = told c.loop-at.seen (Some c.in-Some.at) c.in-Some.ensures in
     least_past corner horizon (c.args.after + length c.args.marks.now) first c.loop-at.invariant.within
-    (omega (arith, first.after, c.loop-at.invariant.from, c.if-place-marks.true, c.loop-at.invariant.marked.size)) first.within
+    (omega (arith, first.after, c.loop-at.invariant.from, c.if-place-marks.true, c.loop-at.invariant.marked.size))
+    first.within
 
 pub loop-at-smaller : goal.loop-at-smaller
 loop-at-smaller g c =
@@ -48,7 +50,8 @@ loop-at-preserved g c =
     record {
       from = omega (arith, known.from, first.after);
       within = omega (arith, known.from, first.after, c.if-place-marks.false, known.marked.size);
-      marked = marked_set (c.in-Some.at - c.args.after - 1) reached (up_to_holds corner horizon c.in-Some.at first.within first.holds)
+      marked = marked_set (c.in-Some.at - c.args.after - 1) reached
+          (up_to_holds corner horizon c.in-Some.at first.within first.holds)
           (omega (arith, known.from, first.after)) (omega (arith, c.if-place-marks.false, known.marked.size));
     }
 
@@ -64,4 +67,5 @@ returns-clause-past g c =
     let corner = (g.Self.Bound.meaning c.args.self.now).is_corner c.args.row.now in
     let told = own_corner (g.Self.Bound.meaning c.args.self.now) c.args.row.now in
     let none = told c.loop-at.seen None c.in_default.ensures in
-    least_past_none corner horizon c.loop-at.seen (c.args.after + length c.args.marks.now) none c.loop-at.invariant.within
+    least_past_none corner horizon c.loop-at.seen
+    (c.args.after + length c.args.marks.now) none c.loop-at.invariant.within

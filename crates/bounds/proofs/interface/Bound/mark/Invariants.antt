@@ -10,7 +10,8 @@ invariant-loop-at g l =
     record {
       from : l.after ≤ l.seen;
       within : l.seen ≤ l.after + length l.initial.marks;
-      marked : Marked (up_to horizon ((g.Self.Bound.meaning l.self).is_corner l.row)) l.after (l.seen + 1) l.initial.marks l.marks;
+      marked : Marked (up_to horizon ((g.Self.Bound.meaning l.self).is_corner l.row)) l.after
+          (l.seen + 1) l.initial.marks l.marks;
     }
 
 abbrev pub decreases-loop-at : goal.decreases-loop-at

@@ -15,7 +15,11 @@ tail_ends : (k : ℕ) (r : Row) (last t : ℕ) → last ≡ min ((k - 1) * r.per
 tail_ends k r last t end late = elim (cases_lt last t) [
   | inl past ↦ up_to_past (is_rise r) last t past ∙ sym (none past)
   | inr near ↦
-      rw (le-leb t last near, le-leb t horizon (omega (arith, end)), le-leb (t + r.jitter) ((k - 1) * r.period) (omega (arith, end)))
+      rw (
+        le-leb t last near,
+        le-leb t horizon (omega (arith, end)),
+        le-leb (t + r.jitter) ((k - 1) * r.period) (omega (arith, end)),
+      )
       (sym (and-true (is_rise r t)))
 ]
   where
@@ -24,7 +28,8 @@ tail_ends k r last t end late = elim (cases_lt last t) [
       | inl far ↦ up_to_past ((linear_tail k).is_corner r) horizon t far
       | inr near ↦
           up_to_not ((linear_tail k).is_corner r) horizon t
-          (and_right (is_rise r t) (is_before_tail k r t) (lt-leb (t + r.jitter) ((k - 1) * r.period) (omega (arith, end))))
+          (and_right (is_rise r t) (is_before_tail k r t)
+          (lt-leb (t + r.jitter) ((k - 1) * r.period) (omega (arith, end))))
     ]
 
 pub returns-clause-past : goal.returns-clause-past
@@ -32,5 +37,7 @@ returns-clause-past c =
     let k = c.args.self.now.accuracy in
     let row = c.args.row.now in
     c.mark_rises.ensures.past
-    ∙ least_same (is_rise row) ((linear_tail k).is_corner row) c.min.result horizon (c.args.after + length c.args.marks.now)
-    (λ i low. tail_ends k row c.min.result i (omega (arith, c.min.ensures, c.saturating_sub-begin.ensures)) (omega arith))
+    ∙ least_same (is_rise row) ((linear_tail k).is_corner row) c.min.result horizon
+    (c.args.after + length c.args.marks.now)
+    (λ i low. tail_ends k row c.min.result i (omega (arith, c.min.ensures, c.saturating_sub-begin.ensures))
+    (omega arith))

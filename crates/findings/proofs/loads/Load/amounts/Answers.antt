@@ -6,7 +6,8 @@ use Rattle.findings.proofs.loads.Load.amounts.Goals as goal
 
 pub sum-requires-clause-fits : goal.sum-requires-clause-fits
 sum-requires-clause-fits g c =
-    let fits = answers_fit (load_of c.args.self.now) (g.met.B.Bound.lawful c.args.self.now.bound.now) c.args.self.now.countable c.args.at c.requires in
+    let fits = answers_fit (load_of c.args.self.now)
+    (g.met.B.Bound.lawful c.args.self.now.bound.now) c.args.self.now.countable c.args.at c.requires in
     search rules
 
 pub returns : goal.returns

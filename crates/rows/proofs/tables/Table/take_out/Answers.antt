@@ -17,5 +17,9 @@ invariant_of-self c =
     let list = c.take_out.new.list in
     let lent = when_ok _ _ c.take_out.result c.unwrap.result c.unwrap.ensures c.take_out.ensures.taken in
     let out = subst (λ xs. list ≡ remove xs k ++ drop (length xs - 1) xs) c.as_mut_slice.ensures.value lent in
-    subst (λ xs. IsJudged (book h xs)) (sym (c.truncate.ensures.items ∙ out_cut rows list _ k (c.len-count.result - 1) (length rows) (omega (arith, rank.0, rank.1, c.len-count.ensures.value)) (omega (arith, rank.1)) (omega (arith, c.len-count.ensures.value)) out))
+    subst (λ xs. IsJudged (book h xs))
+    (sym (c.truncate.ensures.items
+    ∙ out_cut rows list _ k (c.len-count.result - 1) (length rows)
+    (omega (arith, rank.0, rank.1, c.len-count.ensures.value)) (omega (arith, rank.1))
+    (omega (arith, c.len-count.ensures.value)) out))
     (judged_without h rows k within c.self.invariant)

@@ -12,7 +12,8 @@ pub loop-character-preserved : goal.loop-character-preserved
 loop-character-preserved g c =
     let (seen, is, wrote) = c.loop-character.invariant in (
       seen ++ encode_utf8 (printable_char c.in-Some.character),
-      seen_more c.args.self.now.0.now c.loop-character.character-iterator.rest.now c.next.new.self.rest.now seen c.in-Some.character is c.in-Some.ensures.steps.0,
+      seen_more c.args.self.now.0.now c.loop-character.character-iterator.rest.now c.next.new.self.rest.now seen
+          c.in-Some.character is c.in-Some.ensures.steps.0,
       λ p.
           let now = wrote p in
           has_written_append _ _ _ _ _ _ now (rw (sym c.printable_char.ensures) (search rules)),
@@ -21,4 +22,6 @@ loop-character-preserved g c =
 pub returns-clause-writes : goal.returns-clause-writes
 returns-clause-writes g c p done =
     let (seen, is, wrote) = c.loop-character.invariant in
-    has_written_of_eq _ _ _ _ _ (seen_all c.args.self.now.0.now c.loop-character.character-iterator.rest.now seen is c.in-None.ensures.steps.0.0) (wrote p)
+    has_written_of_eq _ _ _ _ _
+    (seen_all c.args.self.now.0.now c.loop-character.character-iterator.rest.now seen is
+    c.in-None.ensures.steps.0.0) (wrote p)

@@ -14,7 +14,8 @@ returns-in_default-clause-told c has =
     let row = row_at c.args.line c.args.fields.now in
     let cannot : (numbers_of columns row.fields ≡ None) ⊎ (¬ (IsUtf8 (name_of columns row.fields))) = search rules in
     let room : nat_le 32 (length (table_numbers c.args.self.now)) ≡ false = has_room _ (search rules) in
-    tells_some _ _ _ c.in_ok-misread.field-0 _ (cannot_told columns _ row room has cannot) (rw c.as_slice-columns.ensures.value at c.in_ok-misread.ensures) c.into-in_default.ensures
+    tells_some _ _ _ c.in_ok-misread.field-0 _ (cannot_told columns _ row room has cannot)
+    (rw c.as_slice-columns.ensures.value at c.in_ok-misread.ensures) c.into-in_default.ensures
 
 pub returns-clause-none : goal.returns-clause-none
 returns-clause-none c once =
