@@ -3,9 +3,8 @@ use Rattle.std.specs.Prelude.{◌≡◌, ℕ, List, [], ◌∷◌, ◌++◌, len
 use Rattle.rows.specs.declared.tasks.Numbers.{Numbers}
 use Rattle.rows.specs.declared.tasks.Row.{Row}
 use Rattle.rows.specs.Answers.{Check}
-use Rattle.rows.specs.Books.{full_table}
 use Rattle.rows.specs.Judging.{row_flaws, table_flaw_checks}
-use Rattle.findings.specs.Asking.{list_checks}
+use Rattle.findings.specs.Asking.{size_checks}
 use Rattle.findings.specs.Exact.{response, Responds}
 use Rattle.brackets.specs.Speeds.{IsExactOnFrames}
 
@@ -23,11 +22,6 @@ abbrev pub TableResponds : List Row → Type 0
 TableResponds rows =
     (xs ys : List Row) (r : Row) → rows ≡ xs ++ r ∷ ys
     → Responds r xs (response r xs) × IsExactOnFrames r xs (response r xs)
-
--- what is checked of so many rows whose response times are to be put into a list of so many places, in order: full
--- table; short list
-abbrev pub size_checks : ℕ → ℕ → List Check
-size_checks rows places = full_table rows ∷ list_checks rows places
 
 -- what is checked of a table whose response times are to be put into a list of so many places, in order: full table and
 -- short list; then idle row, no window, late deadline and long period, each at every rank before the next, with the

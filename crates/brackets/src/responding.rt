@@ -7,10 +7,11 @@ ghost use Rattle.rows.specs.Lists.{written, StaysOutside};
 ghost use Rattle.rows.specs.Times.{most_rows};
 ghost use Rattle.findings.specs.Asking.{above_checks, most_above};
 ghost use Rattle.findings.specs.Exact.{response, Responds};
-ghost use Rattle.brackets.specs.Responses.{responses_of, response_checks, size_checks, TableResponds};
+ghost use Rattle.brackets.specs.Responses.{responses_of, response_checks, TableResponds};
 ghost use Rattle.brackets.specs.Speeds.{IsExactOnFrames};
 
 use crate::speeds::{Speed, climb};
+use findings::check_size;
 use rows::{Fault, MOST_ROWS, Numbers, Refusal, Row, judge_rows};
 
 // An instant counted from the readiness of a row, counted from its release.
@@ -49,20 +50,6 @@ pub fn response_time(row: &Row, above: &[Row]) -> Result<Option<u64>, Fault>
         return Err(Refusal::FullTable.at(0));
     }
     Ok(respond(row, above))
-}
-
-// Whether the response times of so many rows can be put into a list of so many places.
-fn check_size(rows: usize, places: usize) -> Result<(), Fault>
-    ensures answered { answer (λ u. u) result ≡ checked (size_checks rows places) tt }
-    ensures room { OnOk result (rows ≤ places) }
-{
-    if rows > MOST_ROWS {
-        return Err(Refusal::FullTable.at(0));
-    }
-    if places < rows {
-        return Err(Refusal::ShortList.at(0));
-    }
-    Ok(())
 }
 
 // Puts the response times of rows into the list, each at its row's place.

@@ -10,9 +10,11 @@ mod loads;
 mod questions;
 mod recounting;
 mod searching;
+mod sizes;
 mod skipping;
 
 pub use asking::find;
 pub use questions::Demand;
 pub use recounting::recount;
 pub use rows::{Finding, Verdict};
+pub use sizes::check_size;

@@ -1,17 +1,11 @@
 -- The survey of a whole table of numbers that nobody has judged yet.
-use Rattle.std.specs.Prelude.{ℕ, List, ◌∷◌, ◌++◌, length}
+use Rattle.std.specs.Prelude.{ℕ, List, ◌++◌, length}
 use Rattle.rows.specs.declared.frames.FrameNumbers.{FrameNumbers}
 use Rattle.rows.specs.declared.tasks.Numbers.{Numbers}
 use Rattle.rows.specs.Answers.{Check}
-use Rattle.rows.specs.Books.{full_table}
 use Rattle.rows.specs.Frames.{frame_checks}
 use Rattle.rows.specs.Judging.{frame_flaws, table_flaw_checks}
-use Rattle.findings.specs.Asking.{list_checks}
-
--- what is checked of the size of a table whose findings are to be put into a list of so many places, in order: full
--- table; short list
-abbrev pub size_checks : ℕ → ℕ → List Check
-size_checks rows places = full_table rows ∷ list_checks rows places
+use Rattle.findings.specs.Asking.{size_checks}
 
 -- what is checked of a survey that is to fill a list of so many places, in order: bad frame, full table
 -- and short list; then idle row, no window, late deadline, long period and off frame, each at every rank before

@@ -5,24 +5,11 @@ ghost use Rattle.rows.specs.Judging.{plain, rows_of};
 ghost use Rattle.rows.specs.Lists.{written, StaysOutside};
 ghost use Rattle.rows.specs.Found.{tells};
 ghost use Rattle.findings.specs.Tables.{findings_of, TableSays};
-ghost use Rattle.tables.specs.Surveys.{size_checks, survey_checks};
+ghost use Rattle.tables.specs.Surveys.{survey_checks};
 
 use bounds::Bound;
-use findings::recount;
-use rows::{Fault, Finding, FrameNumbers, MOST_ROWS, Numbers, Refusal, Table};
-
-// Whether a table of so many rows can be counted into a list of so many places.
-fn check_size(rows: usize, places: usize) -> Result<(), Fault>
-    ensures { answer (λ u. u) result ≡ checked (size_checks rows places) tt }
-{
-    if rows > MOST_ROWS {
-        return Err(Refusal::FullTable.at(0));
-    }
-    if places < rows {
-        return Err(Refusal::ShortList.at(0));
-    }
-    Ok(())
-}
+use findings::{check_size, recount};
+use rows::{Fault, Finding, FrameNumbers, Numbers, Table};
 
 /// The survey of a table (docs/RULES.md, Surveys): judges the frame and every place, and puts the
 /// findings of the rows into the list, in rank order; the places past the last row stay. Answers how
