@@ -30,8 +30,8 @@ with_newcomer rank n rows = take (rank - 1) rows ++ (rows_of (n ∷ []) ++ drop 
 abbrev pub without : ℕ → List Row → List Row
 without rank rows = take (rank - 1) rows ++ drop rank rows
 
--- what is checked of an admit but for overload, in order: the flaws of the four numbers on the book's frame; full table;
--- no rank
+-- what is checked of an admit but for overload, in order: the flaws of the four numbers on the book's frame; full
+-- table; no rank
 abbrev pub entry_checks : Book → ℕ → Numbers → List Check
 entry_checks b rank n = flaw_checks (frame_flaws b.frame) n 0 ++ place_checks (length b.rows) rank
 

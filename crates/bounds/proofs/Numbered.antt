@@ -1,11 +1,14 @@
--- The kinds of bounds are listed by their numbers.
+-- The kinds of bounds are listed by their numbers, and a bound is known by its kind and its accuracy.
 use Rattle.std.proofs.Common.{◌≡◌, ℕ, ◌==◌, Bool, true, false, List, [], ◌∷◌, Some, find, if◌then◌else◌, refl, sym, ap}
 use Rattle.std.proofs.Common.{◌∙◌}
 use Rattle.std.proofs.lemmas.Bool.{eqb-true}
 use Rattle.bounds.specs.declared.families.Family.{Family}
 use Rattle.bounds.specs.declared.families.Family.TheVariants.{ExactSteps, LinearTail}
 use Rattle.bounds.specs.declared.families.TheConstants.Family.{ALL}
-use Rattle.bounds.specs.Families.{family_number, family_of_number}
+use Rattle.bounds.specs.declared.supplied.Supplied.{Supplied}
+use Rattle.bounds.specs.declared.supplied.Supplied.TheVariants.{ExactSteps as exact, LinearTail as tail}
+use Rattle.bounds.specs.Families.{family_meaning, family_number, family_of_number, supplied_plain}
+use Rattle.bounds.specs.Values.{meaning_of}
 
 -- the number of each names it
 pub numbered : (f : Family) → family_of_number (family_number f) ≡ Some f
@@ -25,3 +28,8 @@ found p (x ∷ xs) y is = by (p x) refl is (found p xs y)
 -- the kind that a number names has that number
 pub number_of_kind : (n : ℕ) (f : Family) → family_of_number n ≡ Some f → family_number f ≡ n
 number_of_kind n f named = eqb-true (family_number f) n (found (λ f. family_number f == n) ALL f named)
+
+-- a bound means what is meant by its kind and the accuracy that is told with it
+pub means_plain : (b : Supplied) → meaning_of b ≡ family_meaning (supplied_plain b).0 (supplied_plain b).1
+means_plain exact = refl
+means_plain (tail t) = refl

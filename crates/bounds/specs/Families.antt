@@ -8,7 +8,8 @@ use Rattle.bounds.specs.declared.families.Family.TheVariants.{ExactSteps as exac
 use Rattle.bounds.specs.declared.families.TheConstants.Family.{ALL}
 use Rattle.bounds.specs.declared.supplied.Supplied.{Supplied}
 use Rattle.bounds.specs.declared.supplied.Supplied.TheVariants.{ExactSteps as exact, LinearTail as tail}
-use Rattle.bounds.specs.Meaning.{is_accuracy}
+use Rattle.bounds.specs.Meaning.{Meaning, is_accuracy}
+use Rattle.bounds.specs.Supplied.{exact_steps, linear_tail}
 use Rattle.bounds.specs.Values.{accuracy_of}
 
 -- the number by which a heading names bounds of a kind
@@ -39,6 +40,11 @@ family_of_number n = find (λ f. family_number f == n) ALL
 abbrev pub supplied_plain : Supplied → Family × ℕ
 supplied_plain exact = (exact_kind, 0)
 supplied_plain (tail t) = (tail_kind, accuracy_of t)
+
+-- what a bound means that is told so, by its kind and the accuracy
+abbrev pub family_meaning : Family → ℕ → Meaning
+family_meaning exact_kind k = exact_steps
+family_meaning tail_kind k = linear_tail k
 
 -- an accuracy can be told with a kind: one of its accuracies, or 0 where it has none
 abbrev pub can_have : Family → ℕ → Bool

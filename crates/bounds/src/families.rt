@@ -108,7 +108,8 @@ impl Family {
 impl Supplied {
     ghost use Rattle.std.specs.Prelude.{◌≡◌};
     ghost use Rattle.rows.specs.Answers.{answer, checked};
-    ghost use Rattle.bounds.specs.Families.{bound_numbers, named_checks, supplied_plain};
+    ghost use Rattle.bounds.specs.Families.{bound_numbers, family_meaning, named_checks, supplied_plain};
+    ghost use Rattle.bounds.specs.Values.{meaning_of};
 
     /// The bound that the number of its kind and an accuracy name together, as a heading does
     /// (docs/FORMAT.md, Entries): the accuracy is 0 where there is but one bound of the kind.
@@ -127,9 +128,11 @@ impl Supplied {
     }
 
     /// The kind of the bound, and the accuracy that is told with it: 0 where there is but one of the
-    /// kind.
+    /// kind. By both together it is known what the bound means.
+    #[tactic(auto, using(crate::proofs::Numbered::means_plain))]
     pub fn plain(&self) -> (Family, u32)
-        ensures { result ≡ supplied_plain self.now }
+        ensures answered { result ≡ supplied_plain self.now }
+        ensures means { meaning_of self.now ≡ family_meaning result.0 result.1 }
     {
         match self {
             Supplied::ExactSteps => (Family::ExactSteps, 0),

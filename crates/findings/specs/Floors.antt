@@ -11,7 +11,7 @@ IsUnder l t x = (u : ℕ) → t ≤ u → u ≤ horizon → x ≤ demand l u
 abbrev pub NoneBetween : Load → ℕ → ℕ → Type 0
 NoneBetween l s e = (t : ℕ) → s < t → t < e → is_rest l t ≡ false
 
--- where a search after s goes on: at an instant up to last before which there is no rest, or nowhere, where there is none
--- up to last
+-- where a search after s goes on: at an instant up to last before which there is no rest, or nowhere, where there is
+-- none up to last
 abbrev pub GoesOn : Load → ℕ → ℕ → Option ℕ → Type 0
 GoesOn l s last o = MatchOption o (NoneBetween l s (last + 1)) (λ t. (s < t) × (t ≤ last) × NoneBetween l s t)

@@ -34,7 +34,8 @@ fn write_row_record<W: Write + Drop>(
 ) -> Result<(), Error>
     requires { IsFresh writer.old }
     ensures fresh { OnOk result (IsFresh writer.new) }
-    ensures bytes { OnOk result (Appends (text_written W.contents writer.old) (text_written W.contents writer.new) (row_text default_writer (fields_from headings.now 0 row.now))) }
+    ensures bytes { OnOk result (Appends (text_written W.contents writer.old) (text_written W.contents writer.new)
+        (row_text default_writer (fields_from headings.now 0 row.now))) }
 {
     writer.write_byte_record(&made(record_of_row(alloc, headings, row))?)
 }
@@ -48,7 +49,8 @@ fn write_row_records<W: Write + Drop>(
 ) -> Result<(), Error>
     requires { IsFresh writer.old }
     ensures fresh { OnOk result (IsFresh writer.new) }
-    ensures bytes { OnOk result (Appends (text_written W.contents writer.old) (text_written W.contents writer.new) (rows_text (map (λ row. fields_from headings.now 0 row.items) rows.now))) }
+    ensures bytes { OnOk result (Appends (text_written W.contents writer.old) (text_written W.contents writer.new)
+        (rows_text (map (λ row. fields_from headings.now 0 row.items) rows.now))) }
 {
     for row in rows {
         write_row_record(alloc, writer, headings, row)?;
@@ -64,7 +66,8 @@ fn write_heading_record<W: Write + Drop>(
 ) -> Result<(), Error>
     requires { IsFresh writer.old }
     ensures fresh { OnOk result (IsFresh writer.new) }
-    ensures bytes { OnOk result (Appends (text_written W.contents writer.old) (text_written W.contents writer.new) (row_text default_writer (headings_of headings.now))) }
+    ensures bytes { OnOk result (Appends (text_written W.contents writer.old) (text_written W.contents writer.new)
+        (row_text default_writer (headings_of headings.now))) }
 {
     writer.write_byte_record(&made(record_of_headings(alloc, headings))?)
 }
@@ -74,7 +77,8 @@ fn write_heading_record<W: Write + Drop>(
 /// text as it is. A field is quoted where it needs to be. Out of memory is an `Err`.
 pub fn to_csv(alloc: Global, grid: &Grid) -> Result<Vec<u8>, Error>
     ensures numbers { OnOk result (NumbersReadBack field_of) }
-    ensures records { IfOk result (λ text. AreRecords default_config st.StartRecord text.items (map read_back (records_of grid.now.headings.items grid.now.rows.items))) }
+    ensures records { IfOk result (λ text. AreRecords default_config st.StartRecord text.items
+        (map read_back (records_of grid.now.headings.items grid.now.rows.items))) }
 {
     let mut writer = WriterBuilder::new().from_writer(Vec::new(alloc));
     write_heading_record(alloc, &mut writer, &grid.headings)?;

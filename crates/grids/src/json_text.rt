@@ -40,7 +40,8 @@ fn write_members(
     headings: &[&'static str],
     row: &[Cell],
 ) -> Result<(), AllocError>
-    ensures ok { OnOk result (writer.new.tokens ≡ writer.old.tokens ++ members_tokens (members_from headings.now 0 row.now)) }
+    ensures ok { OnOk result (writer.new.tokens
+        ≡ writer.old.tokens ++ members_tokens (members_from headings.now 0 row.now)) }
     ensures before { writer.new.before ≡ writer.old.before }
 {
     for (place, heading) in headings.iter().enumerate() {

@@ -9,7 +9,8 @@ use Rattle.findings.specs.Lent.{demand_told}
 use Rattle.plots.specs.Thinning.{IsThinned}
 use Rattle.plots.specs.declared.pictures.Point.{Point}
 
--- what is drawn at t of a load whose row may rest up to last: the demand up to it, in parts, and whether it is a test point
+-- what is drawn at t of a load whose row may rest up to last: the demand up to it, in parts, and whether it is a test
+-- point
 abbrev pub point_at : Load → ℕ → ℕ → Point
 point_at l last t = record { at = t; demand = demand l t; tested = is_tested l last t }
 

@@ -41,7 +41,8 @@ moved_from_rank old now rank x low high moved =
     let is : now ≡ copy_within old place last (place + 1) = moved ∙ ap (copy_within old place last) up in
     ap (λ xs. set xs place x) is ∙ moved_down old place last x (omega arith) (omega arith)
 
--- where a list is written from a place on with what another has there, and has the same before it, it has the other in front
+-- where a list is written from a place on with what another has there, and has the same before it, it has the other in
+-- front
 pub whole_front : {X : Type 0} (old all new : List X) (from : ℕ) → new ≡ written old from (drop from all)
     → take from old ≡ take from all → take (length all) new ≡ all
 whole_front old all new from put same =

@@ -7,7 +7,8 @@ use Rattle.leaves.specs.declared.entries.Entry.{Entry}
 use Rattle.leaves.specs.declared.entries.Entry.TheVariants.{Heading as heading, Row as row}
 use Rattle.leaves.specs.Contents.{bytes_of}
 
--- what stands on a sheet, a table to be surveyed: a heading, which tells the frame and the bound to count by, and the rows in rank order
+-- what stands on a sheet, a table to be surveyed: a heading, which tells the frame and the bound to count by, and the
+-- rows in rank order
 pub record OnSheet : Type 0 where
   pub heading : Heading
   pub rows : List Row

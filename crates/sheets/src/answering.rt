@@ -3,7 +3,8 @@ ghost use Rattle.std.specs.Prelude.{◌≡◌, ◌≤◌, length, IsOk};
 ghost use Rattle.rows.specs.Answers.{Answer, gives, refuses};
 ghost use Rattle.rows.specs.Refusals.{number};
 ghost use Rattle.leaves.specs.Contents.{Contents};
-ghost use Rattle.sheets.specs.Answers.{Answers, AnswersOnce, deciding, most_answer, most_sheet, FirstDecide, IsPut, IsLeafOf};
+ghost use Rattle.sheets.specs.Answers.{Answers, AnswersOnce, deciding, most_answer, most_sheet, FirstDecide, IsPut};
+ghost use Rattle.sheets.specs.Answers.{IsLeafOf};
 ghost use Rattle.sheets.specs.Surveying.{IsSurveyOf};
 
 use crate::reading_sheets::read;

@@ -54,7 +54,8 @@ IsSpotTold t None s = s ≡ None
 IsSpotTold t (Some p) None = ⊥
 IsSpotTold t (Some p) (Some s) = IsSpotOf t p.0 p.1 s
 
--- a fault is told: where the number stands that it is about, and its refusal, with the rank where there is such a number
+-- a fault is told: where the number stands that it is about, and its refusal, with the rank where there is such a
+-- number
 pub record IsExplained (t : TaskTable) (fault : Fault) (m : Misread) : Type 0 where
   pub spot : IsSpotTold t (told_of t fault) m.spot
   pub refused : m.refused

@@ -24,8 +24,8 @@ ended_lines text = ended_behind 0 text
 abbrev pub line_behind : List ℕ → ℕ
 line_behind text = ended_lines text + (if is_line_end (slice_index_or text (length text - 1) 10) then 1 else 2)
 
--- a byte is passed over before a record, in a comment, which a number sign begins and a line feed ends, or as the end of a
--- line: whether the next byte stands in a comment; nothing, where a record begins with it
+-- a byte is passed over before a record, in a comment, which a number sign begins and a line feed ends, or as the end
+-- of a line: whether the next byte stands in a comment; nothing, where a record begins with it
 abbrev pub passes : Bool → ℕ → Option Bool
 passes true b = Some (not (b == 10))
 passes false b = if b == 35 then Some true else if is_line_end b then Some false else None

@@ -8,8 +8,8 @@ use Rattle.task_tables.specs.declared.misreads.Expected.TheVariants.{Text}
 use Rattle.task_tables.specs.declared.misreads.Misread.{Misread}
 use Rattle.task_tables.specs.declared.misreads.Place.{Place}
 
--- what is told where a text cannot be taken: the line, the field on it and its column where a field is concerned, what was
--- expected there, and the refusal whose condition holds
+-- what is told where a text cannot be taken: the line, the field on it and its column where a field is concerned, what
+-- was expected there, and the refusal whose condition holds
 pub record ToldMisread : Type 0 where
   pub line : ℕ
   pub field : Option ℕ

@@ -23,8 +23,8 @@ abbrev pub no_column : ℕ → ℕ → List ℕ → ToldMisread
 no_column line field heading =
     of_field (place_at line field) None (expected_for expected.Heading heading) None
 
--- what is told of a heading behind those of some columns: it names none, or one of these again; else what is told of those
--- behind it
+-- what is told of a heading behind those of some columns: it names none, or one of these again; else what is told of
+-- those behind it
 abbrev pub heading_told : ℕ → List Column → List ℕ → (List Column → Option ToldMisread) → Option Column
     → Option ToldMisread
 heading_told line columns heading more None = Some (no_column line (length columns + 1) heading)
@@ -32,8 +32,8 @@ heading_told line columns heading more (Some c) =
     if has_column columns c then Some (of_field (place_at line (length columns + 1)) None expected.OtherHeading None)
     else more (columns ++ c ∷ [])
 
--- what is told of the headings of a line, behind those of some columns: the leftmost that cannot be taken, or that one is
--- missing
+-- what is told of the headings of a line, behind those of some columns: the leftmost that cannot be taken, or that one
+-- is missing
 unfoldable pub headings_told : ℕ → List Column → List (List ℕ) → Option ToldMisread
 headings_told line columns [] = if has_numbers columns then None else Some (of_line line expected.Headings None)
 headings_told line columns (h ∷ hs) = heading_told line columns h (λ more. headings_told line more hs) (column_named h)
@@ -43,8 +43,8 @@ unfoldable pub columns_of : List (List ℕ) → List Column
 columns_of [] = []
 columns_of (h ∷ hs) = option_map_or (λ c. c ∷ columns_of hs) (column_named h) (columns_of hs)
 
--- what is told of the fields of a row, from one on, under so many of the columns: the leftmost that cannot stand under its
--- column
+-- what is told of the fields of a row, from one on, under so many of the columns: the leftmost that cannot stand under
+-- its column
 unfoldable pub fields_told : List Column → FieldRow → ℕ → List Column → List (List ℕ) → Option ToldMisread
 fields_told all row field [] fs = None
 fields_told all row field (c ∷ cs) [] = None

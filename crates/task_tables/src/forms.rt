@@ -3,7 +3,8 @@ ghost use Rattle.std.specs.Prelude.{◌≡◌, find, map, option_map, IfOk};
 ghost use Rattle.std.specs.List.{slice_split};
 ghost use Rattle.csv.specs.Reading.{strip_bom};
 ghost use Rattle.csv.specs.Records.{fields_of};
-ghost use Rattle.task_tables.specs.Forms.{counts, decides, delimiter, fields_in, form_of, form_of_line, has_text, is_comment, is_line_end};
+ghost use Rattle.task_tables.specs.Forms.{counts, decides, delimiter, fields_in, form_of, form_of_line, has_text};
+ghost use Rattle.task_tables.specs.Forms.{is_comment, is_line_end};
 
 use crate::fields::trimmed;
 use csv::ByteRecord;

@@ -1,5 +1,6 @@
 // A table of tasks as it was read: numbers and names, and where each stood.
-ghost use Rattle.std.specs.Prelude.{◌≡◌, ◌≤◌, ◌-◌, ◌++◌, ◌∷◌, [], length, vec_len, map, None, slice_get, slice_index_or, true, IfErr, IfOk, OnOk, Some};
+ghost use Rattle.std.specs.Prelude.{◌≡◌, ◌≤◌, ◌-◌, ◌++◌, ◌∷◌, [], length, vec_len, map, None, slice_get};
+ghost use Rattle.std.specs.Prelude.{slice_index_or, true, IfErr, IfOk, OnOk, Some};
 ghost use Rattle.task_tables.specs.Misreads.{of_line, told_by};
 
 use crate::columns::{Column, place_of};
@@ -25,7 +26,8 @@ impl TaskTable {
     ghost use Rattle.task_tables.specs.Refusals.{CannotTake, is_misread};
     ghost use Rattle.task_tables.specs.Rows.{row_at};
     ghost use Rattle.task_tables.specs.Told.{Tells, task_told};
-    ghost use Rattle.task_tables.specs.Tables.{field_of, table_columns, table_lines, table_names, table_numbers, TakesTask};
+    ghost use Rattle.task_tables.specs.Tables.{field_of, table_columns, table_lines, table_names, table_numbers};
+    ghost use Rattle.task_tables.specs.Tables.{TakesTask};
 
     // A table without tasks, under a heading.
     pub(crate) fn new(alloc: Global, columns: Vec<Column>) -> TaskTable

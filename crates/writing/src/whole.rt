@@ -1,5 +1,6 @@
 // A whole leaf filed by one call.
-ghost use Rattle.std.specs.Prelude.{ℕ, ◌≡◌, ◌+◌, ◌*◌, ◌≤◌, false, map, length, position, take, List, IsOk, IfOk, OnOk, OnErr};
+ghost use Rattle.std.specs.Prelude.{ℕ, ◌≡◌, ◌+◌, ◌*◌, ◌≤◌, false, map, length, position, take, List, IsOk, IfOk, OnOk};
+ghost use Rattle.std.specs.Prelude.{OnErr};
 ghost use Rattle.std.specs.List.{All, AllPass};
 ghost use Rattle.rows.specs.Answers.{answer, refusal, checked, first_refusal, gives};
 ghost use Rattle.rows.specs.Books.{is_off};
@@ -13,7 +14,8 @@ ghost use Rattle.leaves.specs.declared.entries.Entry.{Entry};
 ghost use Rattle.reading.specs.Phases.{place_of, rows_in, findings_in, frame_in};
 ghost use Rattle.reading.specs.Whole.{Fits};
 ghost use Rattle.writing.specs.Filing.{FilesAll, IsFollowed, IsWholeInTurn};
-ghost use Rattle.writing.specs.Whole.{AreOf, IsFiled, whole_row_checks, whole_finding_checks, file_checks, file_numbers_checks};
+ghost use Rattle.writing.specs.Whole.{AreOf, IsFiled, whole_row_checks, whole_finding_checks, file_checks};
+ghost use Rattle.writing.specs.Whole.{file_numbers_checks};
 
 use crate::taking_findings::FindingsLeaf;
 use crate::taking_rows::RowsLeaf;
