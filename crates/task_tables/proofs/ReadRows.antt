@@ -5,7 +5,7 @@ use Rattle.std.proofs.Math.Seq.{take-suc}
 use Rattle.std.proofs.lemmas.List.{append_assoc, length-take-le, length-map, map-append, take-append-drop}
 use Rattle.std.proofs.lemmas.List.Elements.{filter-append}
 use Rattle.std.specs.List.{filter, list_any}
-use Rattle.csv.specs.Records.{FieldRow as Record, fields_of}
+use Rattle.csv.specs.Records.{Row as Record, fields_of}
 use Rattle.csv.specs.declared.parser.Config.{Config}
 use Rattle.task_tables.specs.declared.forms.FieldsForm.{FieldsForm}
 use Rattle.task_tables.specs.declared.tables.TaskTable.{TaskTable}
