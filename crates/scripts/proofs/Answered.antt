@@ -1,22 +1,24 @@
 -- A script that names a bound and makes calls has the book's answers written.
-use Rattle.std.proofs.Common.{◌≡◌, ℕ, ◌<◌, ◌^◌, IsTrue, cond, List, [], ◌∷◌, ◌++◌, map, refl, ap, ◌∙◌, arith}
+use Rattle.std.proofs.Common.{◌≡◌, ℕ, ◌==◌, Bool, true, false, not, cond, List, [], ◌∷◌, ◌++◌, map, refl, sym, ap, ◌∙◌, arith}
 use Rattle.std.specs.List.{AllByRecursion}
+use Rattle.std.proofs.lemmas.Bool.{eqb-true, true≢false}
 use Rattle.std.proofs.lemmas.Bool.Decides.{nat_tests}
 use Rattle.rows.specs.declared.refusals.Refusal.TheVariants.{BadAccuracy}
-use Rattle.rows.specs.Answers.{refuses}
+use Rattle.rows.specs.Answers.{Answer, Passes, check, checked}
 use Rattle.rows.specs.Books.{Book}
 use Rattle.bounds.specs.Meaning.{Meaning, is_accuracy}
-use Rattle.bounds.specs.Supplied.{exact_steps, linear_tail}
+use Rattle.bounds.specs.declared.families.Family.{Family}
+use Rattle.bounds.specs.Families.{can_have, has_accuracies}
 use Rattle.admission.specs.declared.calls.Call.{Call}
 use Rattle.admission.specs.Books.{first_book, step}
 use Rattle.admission.specs.Runs.{answers_from}
 use Rattle.scripts.specs.declared.lines.ScriptLine.{ScriptLine}
-use Rattle.scripts.specs.Runs.{as_lines, script_output, AnswersCalls, CallsAreAnswered}
+use Rattle.scripts.specs.Runs.{as_lines, script_output, CallsAreAnswered}
 use Rattle.scripts.specs.Scripts.{line_feed}
-use Rattle.scripts.specs.Sessions.{State, Reaction, named, unnamed, silent, answers, first_stage, output_from, heard, reaction_text, next_number}
-use Rattle.scripts.specs.Texts.{answer_text, call_text, exact_text, linear_text, FitsLine}
-use Rattle.scripts.proofs.Plain.{Plain, Plain-exact, Plain-linear, Plain-call, script_lines-plain}
-use Rattle.scripts.proofs.Printed.{call_reads, linear_reads}
+use Rattle.scripts.specs.Sessions.{State, named, unnamed, named_meaning, begins_by, first_stage, output_from, heard, reaction_text, next_number}
+use Rattle.scripts.specs.Texts.{answer_text, bound_text, call_text, FitsBound, FitsLine}
+use Rattle.scripts.proofs.Plain.{Plain, Plain-bound, Plain-call, script_lines-plain}
+use Rattle.scripts.proofs.Printed.{bound_reads, call_reads}
 
 plain_calls : (calls : List Call) → AllByRecursion FitsLine calls → AllByRecursion Plain (map call_text calls)
 plain_calls [] fits = tt
@@ -42,21 +44,35 @@ unfolding script_output
 output_of naming calls plain fits =
     ap (output_from first_stage) (script_lines-plain (naming ∷ map call_text calls) (plain, plain_calls calls fits))
 
-exact_answered : AnswersCalls exact_steps exact_text
-unfolding first_read
-exact_answered calls fits =
-    output_of exact_text calls Plain-exact fits ∙ calls_answered exact_steps calls fits 1 first_book
+-- an accuracy that can be told with a kind of bound stands in a line
+fits_bound : (f : Family) (k : ℕ) → can_have f k ≡ true → FitsBound f k
+fits_bound f k fine = by_case (has_accuracies f) refl fine
+  where
+    by_case : (v : Bool) → has_accuracies f ≡ v → cond v (is_accuracy k) (k == 0) ≡ true → FitsBound f k
+    by_case true told is = record {
+      small = grind (arith, nat_tests);
+      told = λ none. absurd (true≢false (sym told ∙ none));
+    }
+    by_case false told is =
+        let none : k ≡ 0 = eqb-true k 0 is in
+        record { small = omega (arith, none); told = λ _. none }
 
-tail_answered : (k : ℕ) → IsTrue (is_accuracy k) → AnswersCalls (linear_tail k) (linear_text k)
-unfolding first_read
-tail_answered k fine calls fits =
-    let small : k < 2 ^ 32 = grind (arith, nat_tests) in
-    let lines = map call_text calls in
-    output_of (linear_text k) calls (Plain-linear k small) fits
-    ∙ ap (first_read unnamed 1 lines) (linear_reads k small)
-    ∙ ap (λ v. reaction_text 1 (cond {A = State × Reaction} v (named (linear_tail k) first_book, silent) (unnamed, answers (refuses BadAccuracy 0))).1
-    ++ output_from (record { number = 1; state = (cond {A = State × Reaction} v (named (linear_tail k) first_book, silent) (unnamed, answers (refuses BadAccuracy 0))).0 }) lines) fine
-    ∙ calls_answered (linear_tail k) calls fits 1 first_book
+-- it can be told where its check passes
+passed : (v : Bool) → Passes (check (not v) BadAccuracy 0 ∷ []) → v ≡ true
+passed true passes = refl
+passed false passes = cc
+
+-- the output for lines behind one that names a bound
+begun_by : List (List ℕ) → Answer Meaning → List ℕ
+begun_by lines a = reaction_text 1 (begins_by a).1 ++ output_from (record { number = 1; state = (begins_by a).0 }) lines
 
 pub calls_are_answered : CallsAreAnswered
-calls_are_answered = record { exact = exact_answered; tail = tail_answered }
+unfolding first_read begun_by
+calls_are_answered f k passes calls fits =
+    let fine : can_have f k ≡ true = passed (can_have f k) passes in
+    let told : FitsBound f k = fits_bound f k fine in
+    let lines = map call_text calls in
+    output_of (bound_text f k) calls (Plain-bound f k told) fits
+    ∙ ap (first_read unnamed 1 lines) (bound_reads f k told)
+    ∙ ap (λ v. begun_by lines (checked (check (not v) BadAccuracy 0 ∷ []) (named_meaning f k))) fine
+    ∙ calls_answered (named_meaning f k) calls fits 1 first_book

@@ -1,6 +1,8 @@
 pub mod WordList
 pub mod Reading
 pub mod Clipping
+pub mod WordsOfBounds
+pub mod Joined
 pub mod Printed
 pub mod Kept
 pub mod Beginnings
@@ -8,4 +10,5 @@ pub mod Played
 pub mod Agreeing
 pub mod Runs
 pub mod Plain
+pub mod Named
 pub mod Answered

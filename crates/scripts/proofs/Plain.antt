@@ -1,15 +1,18 @@
 -- Lines whose bytes are blanks and what is printed: they hold no line feed and no carriage return.
-use Rattle.std.proofs.Common.{◌≡◌, ℕ, zero, suc, ◌+◌, ◌-◌, ◌%◌, ◌<◌, ◌≤◌, ◌^◌, ◌==◌, false, cond, List, [], ◌∷◌, ◌++◌, length, map, take, get_or, refl, sym, ap, ◌∙◌, arith, append-nil, append_assoc}
+use Rattle.std.proofs.Common.{◌≡◌, ℕ, zero, suc, ◌+◌, ◌-◌, ◌%◌, ◌<◌, ◌≤◌, ◌^◌, ◌==◌, Bool, true, false, cond, List, [], ◌∷◌, ◌++◌, length, map, take, get_or, refl, sym, ap, ◌∙◌, arith, append-nil, append_assoc}
 use Rattle.std.specs.Prelude.{decimal}
 use Rattle.std.specs.List.{AllByRecursion}
 use Rattle.std.proofs.lemmas.Bool.{ne_eqb}
 use Rattle.std.proofs.lemmas.Fmt.{decimal_by_steps}
 use Rattle.rows.specs.declared.tasks.Numbers.{Numbers}
+use Rattle.bounds.specs.declared.families.Family.{Family}
+use Rattle.bounds.specs.Families.{family_word, has_accuracies}
 use Rattle.admission.specs.declared.calls.Call.{Call}
 use Rattle.admission.specs.declared.calls.Call.TheVariants.{Frame, Admit, Dismiss, Inquire}
 use Rattle.scripts.specs.Scripts.{line_feed, carriage_return, without_return, begun_after, ended_lines, last_line, script_lines}
 use Rattle.scripts.specs.Runs.{as_lines}
-use Rattle.scripts.specs.Texts.{call_text, exact_text, linear_text, numbers_text, FitsLine, FitNumbers}
+use Rattle.scripts.specs.Texts.{bound_text, call_text, numbers_text, FitsBound, FitsLine, FitNumbers}
+use Rattle.scripts.proofs.WordsOfBounds.{InWord, names_well}
 
 abbrev pub Plain : List ℕ → Type 0
 Plain line = AllByRecursion (λ b. 32 ≤ b) line
@@ -34,13 +37,21 @@ Plain-numbers n fits =
     (Plain-blank _ (Plain-append (decimal n.period) _ (Plain-decimal n.period fits.period)
     (Plain-blank _ (Plain-decimal n.jitter fits.jitter))))))
 
--- the texts that name a bound, and those of calls
-pub Plain-exact : Plain exact_text
-Plain-exact = (omega arith, (omega arith, (omega arith, (omega arith, (omega arith, tt)))))
+-- a word
+Plain-word : (w : List ℕ) → InWord w → Plain w
+Plain-word [] high = tt
+Plain-word (b ∷ w) high = (omega (arith, high.0), Plain-word w high.1)
 
-pub Plain-linear : (k : ℕ) → k < 2 ^ 32 → Plain (linear_text k)
-Plain-linear k fits =
-    (omega arith, (omega arith, (omega arith, (omega arith, (omega arith, (omega arith, Plain-blank (decimal k) (Plain-decimal k fits)))))))
+-- the texts that name a bound, and those of calls
+pub Plain-bound : (f : Family) (k : ℕ) → FitsBound f k → Plain (bound_text f k)
+Plain-bound f k fits = by_case (has_accuracies f)
+  where
+    word : Plain (family_word f)
+    word = Plain-word (family_word f) (names_well f).bytes
+
+    by_case : (v : Bool) → Plain (cond v (family_word f ++ 32 ∷ decimal k) (family_word f))
+    by_case true = Plain-append (family_word f) _ word (Plain-blank (decimal k) (Plain-decimal k fits.small))
+    by_case false = word
 
 pub Plain-call : (call : Call) → FitsLine call → Plain (call_text call)
 Plain-call (Frame h) fits =

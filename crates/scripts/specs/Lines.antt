@@ -4,12 +4,12 @@ use Rattle.std.specs.Option.{option_map_or}
 use Rattle.rows.specs.Frames.{frame_of}
 use Rattle.admission.specs.declared.calls.Call.TheVariants.{Frame as SetFrame, Admit as AdmitRow, Dismiss as DismissRow, Inquire as InquireRow}
 use Rattle.scripts.specs.declared.expecting.ExpectedWords.{ExpectedWords}
-use Rattle.scripts.specs.declared.expecting.ExpectedWords.TheVariants.{ShortLine, Bound, CallName, Form as WordsOfForm, Number}
+use Rattle.scripts.specs.declared.expecting.ExpectedWords.TheVariants.{ShortLine, Bound as AnyBound, CallName, Form as WordsOfForm, Number}
 use Rattle.scripts.specs.declared.forms.Field.{Field}
 use Rattle.scripts.specs.declared.forms.LineForm.{LineForm}
-use Rattle.scripts.specs.declared.forms.LineForm.TheVariants.{Exact, Linear, Frame, Admit, Dismiss, Inquire}
+use Rattle.scripts.specs.declared.forms.LineForm.TheVariants.{Bound as BoundForm, Frame, Admit, Dismiss, Inquire}
 use Rattle.scripts.specs.declared.lines.ScriptLine.{ScriptLine}
-use Rattle.scripts.specs.declared.lines.ScriptLine.TheVariants.{Passed, Exact as ExactSteps, Linear as LinearTail, Call, NoCall}
+use Rattle.scripts.specs.declared.lines.ScriptLine.TheVariants.{Passed, Bound as NamedBound, Call, NoCall}
 use Rattle.scripts.specs.Forms.{form_fields, form_for}
 use Rattle.numerals.specs.Numerals.{number_of}
 use Rattle.scripts.specs.Words.{words_of}
@@ -26,10 +26,9 @@ numbers_of (field ∷ fields) [] = Err field
 numbers_of (field ∷ fields) (word ∷ words) =
     option_map_or (λ n. put_first n (numbers_of fields words)) (number_of word) (Err field)
 
--- what a line of a form says by its numbers
+-- what a line of a form says by its numbers: of a bound its accuracy too, which is 0 where none is told
 abbrev pub line_by_numbers : LineForm → List ℕ → ScriptLine
-line_by_numbers Exact ns = ExactSteps
-line_by_numbers Linear ns = LinearTail (slice_index ns 0)
+line_by_numbers (BoundForm f) ns = NamedBound f (slice_index ns 0)
 line_by_numbers Frame ns = Call (SetFrame (frame_of (slice_index ns 0)))
 line_by_numbers Admit ns =
     Call (AdmitRow (slice_index ns 0) (record { work = slice_index ns 1; deadline = slice_index ns 2; period = slice_index ns 3; jitter = slice_index ns 4 }))
@@ -51,7 +50,7 @@ line_by_form form words =
 -- what was expected where the first word names no form
 abbrev pub expected_name : Bool → ExpectedWords
 expected_name true = CallName
-expected_name false = Bound
+expected_name false = AnyBound
 
 -- what a line says by its words
 abbrev pub line_by_words : Bool → List (List ℕ) → ScriptLine

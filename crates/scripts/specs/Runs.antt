@@ -1,16 +1,18 @@
 -- What is written for a script, and what a run of it has written.
-use Rattle.std.specs.Prelude.{◌≡◌, ℕ, IsTrue, List, [], ◌∷◌, ◌++◌, Option, map}
+use Rattle.std.specs.Prelude.{◌≡◌, ℕ, List, [], ◌∷◌, ◌++◌, Option, map}
 use Rattle.std.specs.List.{AllByRecursion, flat_map}
 use Rattle.std.specs.Io.KnownBytes.{Appends, Consumes, IsAtEnd}
-use Rattle.bounds.specs.Meaning.{Meaning, is_accuracy}
-use Rattle.bounds.specs.Supplied.{exact_steps, linear_tail}
+use Rattle.rows.specs.Answers.{Passes}
+use Rattle.bounds.specs.declared.families.Family.{Family}
+use Rattle.bounds.specs.Families.{family_accuracy_checks}
+use Rattle.bounds.specs.Meaning.{Meaning}
 use Rattle.admission.specs.declared.calls.Call.{Call}
 use Rattle.admission.specs.Runs.{answers_to}
 use Rattle.streams.specs.declared.failures.Failure.{Failure}
 use Rattle.streams.specs.declared.failures.Failure.TheVariants.{Reading, Writing}
 use Rattle.scripts.specs.Scripts.{line_feed, without_return, ended_lines, script_lines}
-use Rattle.scripts.specs.Sessions.{first_stage, output_from}
-use Rattle.scripts.specs.Texts.{answer_text, call_text, exact_text, linear_text, FitsLine}
+use Rattle.scripts.specs.Sessions.{first_stage, named_meaning, output_from}
+use Rattle.scripts.specs.Texts.{answer_text, bound_text, call_text, FitsLine}
 use Rattle.scripts.specs.Written.{Begun}
 use Rattle.streams.specs.Held.{MayHold}
 
@@ -52,7 +54,7 @@ AnswersCalls m naming =
     (calls : List Call) → AllByRecursion FitsLine calls
     → script_output (as_lines (naming ∷ map call_text calls)) ≡ as_lines (map answer_text (answers_to m calls))
 
--- a script is answered as the book's answers by each bound that it can name
-pub record CallsAreAnswered : Type 0 where
-  pub exact : AnswersCalls exact_steps exact_text
-  pub tail : (k : ℕ) → IsTrue (is_accuracy k) → AnswersCalls (linear_tail k) (linear_text k)
+-- a script is answered as the book's answers by each bound that it can name: by its kind, and an accuracy that passes
+abbrev pub CallsAreAnswered : Type 0
+CallsAreAnswered =
+    (f : Family) (k : ℕ) → Passes (family_accuracy_checks f k) → AnswersCalls (named_meaning f k) (bound_text f k)

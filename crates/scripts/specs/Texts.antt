@@ -1,15 +1,18 @@
 -- What is written: calls, and the answers to lines, each as the bytes of a line without its end.
-use Rattle.std.specs.Prelude.{ℕ, ◌^◌, ◌<◌, List, [], ◌++◌, Option, Some, None, codes, decimal, if◌then◌else◌}
+use Rattle.std.specs.Prelude.{◌≡◌, ℕ, ◌^◌, ◌<◌, false, List, [], ◌++◌, Option, Some, None, codes, decimal, if◌then◌else◌}
+use Rattle.std.specs.List.{join_by}
 use Rattle.rows.specs.declared.refusals.Refusal.{Refusal}
 use Rattle.rows.specs.declared.tasks.Numbers.{Numbers}
 use Rattle.rows.specs.Answers.{Answer, gives, refuses}
 use Rattle.rows.specs.Refusals.{number, words}
+use Rattle.bounds.specs.declared.families.Family.{Family}
+use Rattle.bounds.specs.Families.{family_word, has_accuracies}
 use Rattle.admission.specs.declared.calls.Call.{Call}
 use Rattle.admission.specs.declared.calls.Call.TheVariants.{Frame, Admit, Dismiss, Inquire}
 use Rattle.admission.specs.Replies.{Told, done, row_found, tells_rank}
 use Rattle.scripts.specs.declared.expecting.ExpectedWords.{ExpectedWords}
 use Rattle.scripts.specs.declared.expecting.ExpectedWords.TheVariants.{ShortLine, Bound, CallName, Form, Number}
-use Rattle.scripts.specs.Forms.{field_text, form_text}
+use Rattle.scripts.specs.Forms.{field_text, form_text, forms_once}
 
 -- four numbers, with blanks between them
 abbrev pub numbers_text : Numbers → List ℕ
@@ -22,13 +25,14 @@ call_text (Admit rank n) = codes "admit " ++ (decimal rank ++ (codes " " ++ numb
 call_text (Dismiss rank) = codes "dismiss " ++ decimal rank
 call_text (Inquire rank) = codes "inquire " ++ decimal rank
 
--- the line that names exact steps
-abbrev pub exact_text : List ℕ
-exact_text = codes "exact"
+-- the line that names a bound, by its kind and an accuracy, which is told where there is one of the kind for each
+abbrev pub bound_text : Family → ℕ → List ℕ
+bound_text f k = if has_accuracies f then family_word f ++ (codes " " ++ decimal k) else family_word f
 
--- the line that names the linear tail of an accuracy
-abbrev pub linear_text : ℕ → List ℕ
-linear_text k = codes "linear " ++ decimal k
+-- an accuracy stands in such a line: it has 32 bits, and is 0 where none is told
+pub record FitsBound (f : Family) (k : ℕ) : Type 0 where
+  pub small : k < 2 ^ 32
+  pub told : has_accuracies f ≡ false → k ≡ 0
 
 -- four numbers have 32 bits each
 pub record FitNumbers (n : Numbers) : Type 0 where
@@ -59,10 +63,10 @@ answer_text (gives done) = codes "done"
 answer_text (gives (row_found n f)) = codes "row " ++ (numbers_text n ++ finding_text f.rest f.points)
 answer_text (refuses r at) = codes "refused " ++ (decimal (number r) ++ (codes " " ++ (words r ++ rank_text r at)))
 
--- what was expected where a line is no call
+-- what was expected where a line is no call: where no bound is named yet, any form that names one
 abbrev pub expected_text : ExpectedWords → List ℕ
 expected_text ShortLine = codes "a line of at most 128 bytes"
-expected_text Bound = codes "exact or linear K"
+expected_text Bound = join_by form_text (codes " or ") (forms_once false)
 expected_text CallName = codes "frame, admit, dismiss or inquire"
 expected_text (Form form) = form_text form
 expected_text (Number field) = codes "a number from 0 to 4294967295 for " ++ field_text field

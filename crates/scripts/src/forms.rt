@@ -1,16 +1,16 @@
 // The forms that a line may have, and the numbers that stand in them.
-ghost use Rattle.std.specs.Prelude.{◌≡◌, ◌≤◌, Some, length};
+ghost use Rattle.std.specs.Prelude.{◌≡◌, ◌≤◌, true, Some, length};
 ghost use Rattle.scripts.specs.Forms.{field_text, form_fields, form_for, forms_once, form_name, form_text};
 
+use bounds::Family;
 use std::fmt;
 
 /// A form of a line (docs/PROGRAMS.md, `bench`): its first word, and the numbers that follow it.
 #[derive(Clone, Copy, PartialEq, Eq, Debug)]
 pub enum LineForm {
-    /// `exact` names exact steps as the bound.
-    Exact,
-    /// `linear K` names the linear tail of accuracy K.
-    Linear,
+    /// A word of `bounds::Family` names a bound of the kind, and K its accuracy where there is one for
+    /// each: `exact`, or `linear K`.
+    Bound(Family),
     /// `frame H` sets the frame.
     Frame,
     /// `admit RANK C D T J` puts a row in.
@@ -39,8 +39,7 @@ impl LineForm {
         ensures { result.now ≡ form_name self }
     {
         match self {
-            LineForm::Exact => b"exact",
-            LineForm::Linear => b"linear",
+            LineForm::Bound(family) => family.word().as_bytes(),
             LineForm::Frame => b"frame",
             LineForm::Admit => b"admit",
             LineForm::Dismiss => b"dismiss",
@@ -54,8 +53,8 @@ impl LineForm {
         ensures few { length result.now ≤ 5 }
     {
         match self {
-            LineForm::Exact => &[],
-            LineForm::Linear => &[Field::Accuracy],
+            LineForm::Bound(family) if family.has_accuracies() => &[Field::Accuracy],
+            LineForm::Bound(_) => &[],
             LineForm::Frame => &[Field::Frame],
             LineForm::Admit => &[
                 Field::Rank,
@@ -68,31 +67,34 @@ impl LineForm {
         }
     }
 
-    // The forms that a line may have: until a bound has been named those that name one, and then the
-    // calls.
-    fn once(named: bool) -> &'static [LineForm]
-        ensures { result.now ≡ forms_once named }
+    // The forms of calls.
+    fn calls() -> &'static [LineForm]
+        ensures { result.now ≡ forms_once true }
     {
-        if named {
-            &[
-                LineForm::Frame,
-                LineForm::Admit,
-                LineForm::Dismiss,
-                LineForm::Inquire,
-            ]
-        } else {
-            &[LineForm::Exact, LineForm::Linear]
-        }
+        &[
+            LineForm::Frame,
+            LineForm::Admit,
+            LineForm::Dismiss,
+            LineForm::Inquire,
+        ]
     }
 
-    // The form that a line may have and that its first word names.
+    // The form that a line may have and that its first word names: until a bound has been named one that
+    // names it, and then a call.
     pub(crate) fn of(word: &[u8], named: bool) -> Option<LineForm>
         ensures { result ≡ form_for named word.now }
     {
-        LineForm::once(named)
-            .iter()
-            .copied()
-            .find(|form| form.name() == word)
+        if named {
+            LineForm::calls()
+                .iter()
+                .copied()
+                .find(|form| form.name() == word)
+        } else {
+            Family::all()
+                .into_iter()
+                .map(LineForm::Bound)
+                .find(|form| form.name() == word)
+        }
     }
 }
 
@@ -101,15 +103,20 @@ impl fmt::Display for LineForm {
     ghost output = { λ x. Some (form_text x) };
 
     fn fmt<W: fmt::Write>(&self, f: &mut fmt::Formatter<W>) -> fmt::Result {
-        let text = match self {
-            LineForm::Exact => "exact",
-            LineForm::Linear => "linear K",
-            LineForm::Frame => "frame H",
-            LineForm::Admit => "admit RANK C D T J",
-            LineForm::Dismiss => "dismiss RANK",
-            LineForm::Inquire => "inquire RANK",
-        };
-        write!(f, "{text}")
+        match self {
+            LineForm::Bound(family) => {
+                let word = family.word();
+                if family.has_accuracies() {
+                    write!(f, "{word} K")
+                } else {
+                    f.write_str(word)
+                }
+            }
+            LineForm::Frame => write!(f, "frame H"),
+            LineForm::Admit => write!(f, "admit RANK C D T J"),
+            LineForm::Dismiss => write!(f, "dismiss RANK"),
+            LineForm::Inquire => write!(f, "inquire RANK"),
+        }
     }
 }
 

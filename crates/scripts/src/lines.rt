@@ -1,8 +1,9 @@
 // What a line of a script says.
 ghost use Rattle.std.specs.Prelude.{◌≡◌, ℕ, ◌^◌, ◌<◌, Bool, true, false, List, length, take, MatchResult};
+ghost use Rattle.bounds.specs.declared.families.Family.{Family};
 ghost use Rattle.admission.specs.declared.calls.Call.{Call};
 ghost use Rattle.scripts.specs.Lines.{line_by_form, line_by_words, line_of};
-ghost use Rattle.scripts.specs.Texts.{call_text, exact_text, linear_text, FitsLine};
+ghost use Rattle.scripts.specs.Texts.{bound_text, call_text, FitsBound, FitsLine};
 ghost use Rattle.scripts.specs.declared.lines.ScriptLine.{ScriptLine};
 ghost use Rattle.scripts.specs.Words.{words_of};
 
@@ -10,6 +11,7 @@ use crate::expecting::ExpectedWords;
 use crate::forms::LineForm;
 use crate::words::Words;
 use admission::Call;
+use bounds::Family;
 use rows::{FrameNumbers, Numbers};
 
 // The most bytes of a line that is no comment.
@@ -20,10 +22,9 @@ const LONGEST_LINE: usize = 128;
 pub enum ScriptLine {
     /// Nothing: it is a comment, or has no word.
     Passed,
-    /// That the bench counts in exact steps.
-    Exact,
-    /// That the bench counts by the linear tail of an accuracy, which may be any number here.
-    Linear(u32),
+    /// That the bench counts by a bound, by its kind and its accuracy, which may be any number here; it
+    /// is 0 where there is but one of the kind.
+    Bound(Family, u32),
     /// A call.
     Call(Call),
     /// No call: something else was expected.
@@ -44,8 +45,8 @@ fn read(form: LineForm, words: Words) -> Result<ScriptLine, ExpectedWords>
         .numbers(fields)
         .map_err(ExpectedWords::Number)?;
     Ok(match form {
-        LineForm::Exact => ScriptLine::Exact,
-        LineForm::Linear => ScriptLine::Linear(first),
+        LineForm::Bound(family) if family.has_accuracies() => ScriptLine::Bound(family, first),
+        LineForm::Bound(family) => ScriptLine::Bound(family, 0),
         LineForm::Frame => ScriptLine::Call(Call::Frame(FrameNumbers { ticks: first })),
         LineForm::Admit => {
             let numbers = Numbers {
@@ -81,16 +82,16 @@ fn read_words(mut words: Words, named: bool) -> Result<ScriptLine, ExpectedWords
 /// before that; once a bound has been named, or before (docs/PROGRAMS.md, `bench`).
 ///
 /// Of a line of more than 128 bytes only the first 129 matter. Every call whose rank is below 2^32 is
-/// what its own text says.
-#[tactic(auto, using(crate::proofs::WordList::length_words_of, crate::proofs::Clipping::line_of_clipped, crate::proofs::Printed::call_reads, crate::proofs::Printed::linear_reads))]
+/// what its own text says, and so is every bound with an accuracy below 2^32, 0 where none is told.
+#[tactic(auto, using(crate::proofs::WordList::length_words_of, crate::proofs::Clipping::line_of_clipped, crate::proofs::Printed::call_reads, crate::proofs::Printed::bound_reads))]
 pub fn parse(line: &[u8], named: bool) -> ScriptLine
     ensures answered { result ≡ line_of named line.now }
     ensures clipped { (named : Bool) (bytes : List ℕ)
         → line_of named (take 129 bytes) ≡ line_of named bytes }
     ensures reads_calls { (call : Call)
         → FitsLine call → line_of true (call_text call) ≡ ScriptLine.Call call }
-    ensures reads_exact { line_of false exact_text ≡ ScriptLine.Exact }
-    ensures reads_linear { (k : ℕ) → k < 2 ^ 32 → line_of false (linear_text k) ≡ ScriptLine.Linear k }
+    ensures reads_bounds { (f : Family) (k : ℕ)
+        → FitsBound f k → line_of false (bound_text f k) ≡ ScriptLine.Bound f k }
 {
     if line.first() == Some(&b'#') {
         ScriptLine::Passed

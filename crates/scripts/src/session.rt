@@ -6,7 +6,7 @@ ghost use Rattle.scripts.specs.Sessions.{naming, calling, heard, is_named, named
 use crate::expecting::ExpectedWords;
 use crate::lines::ScriptLine;
 use admission::{Bench, Reply};
-use bounds::{LinearTail, Supplied};
+use bounds::{Family, Supplied};
 
 // What a script has come to: no bound is named yet, or the calls are played on a bench by it.
 #[derive(Debug, Drop)]
@@ -51,25 +51,19 @@ fn name(line: ScriptLine) -> (Session, Remark)
     ensures { naming line ≡ (state_of result.0, reaction_of result.1) }
 {
     match line {
-        ScriptLine::Exact => (
-            Session::Named(Bench::new(Supplied::ExactSteps)),
-            Remark::Silence,
-        ),
-        ScriptLine::Linear(accuracy) => name_tail(accuracy),
+        ScriptLine::Bound(family, accuracy) => begin(family, accuracy),
         ScriptLine::NoCall(expected) => (Session::Unnamed, Remark::NoCall(expected)),
         ScriptLine::Passed | ScriptLine::Call(_) => (Session::Unnamed, Remark::Silence),
     }
 }
 
-// Names the linear tail of an accuracy.
-fn name_tail(accuracy: u32) -> (Session, Remark)
-    ensures { naming (ScriptLine.Linear accuracy) ≡ (state_of result.0, reaction_of result.1) }
+// Begins with a new bench by the bound of a kind and an accuracy.
+#[tactic(auto, using(crate::proofs::Named::meaning_named))]
+fn begin(family: Family, accuracy: u32) -> (Session, Remark)
+    ensures { naming (ScriptLine.Bound family accuracy) ≡ (state_of result.0, reaction_of result.1) }
 {
-    match LinearTail::new(accuracy) {
-        Ok(tail) => (
-            Session::Named(Bench::new(Supplied::LinearTail(tail))),
-            Remark::Silence,
-        ),
+    match family.bound(accuracy) {
+        Ok(bound) => (Session::Named(Bench::new(bound)), Remark::Silence),
         Err(fault) => (Session::Unnamed, Remark::Answer(Reply::Refused(fault))),
     }
 }
@@ -82,6 +76,6 @@ fn call(bench: &mut Bench<Supplied>, line: ScriptLine) -> Remark
     match line {
         ScriptLine::Call(call) => Remark::Answer(bench.call(call)),
         ScriptLine::NoCall(expected) => Remark::NoCall(expected),
-        ScriptLine::Passed | ScriptLine::Exact | ScriptLine::Linear(_) => Remark::Silence,
+        ScriptLine::Passed | ScriptLine::Bound(..) => Remark::Silence,
     }
 }

@@ -1,7 +1,7 @@
 // The lines of works.
 use crate::works::{Action, Work};
 use anyhow::{Context, bail, ensure};
-use bounds::{LinearTail, Supplied};
+use bounds::{Family, Supplied};
 use rows::{FrameNumbers, Numbers, Row};
 use std::alloc::Global;
 
@@ -40,7 +40,7 @@ fn work(alloc: Global, text: &str) -> anyhow::Result<Work> {
     Ok(Work {
         name: name.to_string(alloc)?,
         action,
-        bound: bound(kind, accuracy)?,
+        bound: bound(alloc, kind, accuracy)?,
         rounds: rounds.parse().context("reading the rounds")?,
         tables: Vec::new(alloc),
     })
@@ -55,16 +55,27 @@ fn action(word: &str) -> anyhow::Result<Action> {
     }
 }
 
-// The bound that a word and an accuracy name.
-fn bound(kind: &str, accuracy: &str) -> anyhow::Result<Supplied> {
-    match kind {
-        "exact" => Ok(Supplied::ExactSteps),
-        "linear" => {
-            let accuracy = accuracy.parse().context("reading the accuracy")?;
-            Ok(Supplied::LinearTail(LinearTail::new(accuracy)?))
+// The bound that a word and an accuracy name; where there is but one of the kind, any accuracy does.
+fn bound(alloc: Global, word: &str, accuracy: &str) -> anyhow::Result<Supplied> {
+    for family in Family::all() {
+        if family.word() == word {
+            return bound_of(family, accuracy);
         }
-        _ => bail!("a bound is exact or linear: {kind:?}"),
     }
+    let words = Family::all()
+        .map(|family| family.word())
+        .join(alloc, " or ")?;
+    bail!("a bound is {words}: {word:?}")
+}
+
+// The bound of a kind and an accuracy.
+fn bound_of(family: Family, accuracy: &str) -> anyhow::Result<Supplied> {
+    let accuracy = if family.has_accuracies() {
+        accuracy.parse().context("reading the accuracy")?
+    } else {
+        0
+    };
+    Ok(family.bound(accuracy)?)
 }
 
 // The row of four numbers.
