@@ -1,4 +1,4 @@
--- The common frame of a table, period by period.
+-- The least common multiple of the periods of a table, period by period.
 use Rattle.std.proofs.Common.{◌≡◌, ℕ, ◌+◌, ◌%◌, ◌<◌, ◌≤◌, Bool, true, false, eqb, leb, List, [], ◌∷◌, length, get_or, take, Some, None, refl, sym, ◌∙◌, subst, arith}
 use Rattle.std.proofs.lemmas.Bool.{and_from, and_parts, leb-true, eq-eqb, eqb-true}
 use Rattle.std.proofs.lemmas.List.{take_all}
@@ -9,7 +9,7 @@ use Rattle.rows.specs.declared.tasks.Numbers.{Numbers}
 use Rattle.rows.specs.Times.{horizon}
 use Rattle.bounds.specs.Instants.{IsFirst}
 use Rattle.bounds.specs.Lemmas.Instants.{least_some, least_none}
-use Rattle.filings.specs.Frames.{is_common, common_frame, IsCommonFrame, HasNoFrame, IsJoined, CannotBeJoined}
+use Rattle.filings.specs.Frames.{is_common, least_multiple, IsLeastMultiple, HasNoFrame, IsJoined, CannotBeJoined}
 use Rattle.std.proofs.lemmas.Nat.Gcd.{dvd_of_mod-eq-zero, dvd_trans, le_of_dvd, mod-eq-zero_of_dvd}
 use Prim.Native.Nat.{◌∣◌}
 
@@ -22,7 +22,7 @@ is_false : (b : Bool) → (b ≡ true → ⊥) → b ≡ false
 is_false true not_true = absurd (not_true refl)
 is_false false not_true = refl
 
-module _ (table : List Numbers) (i : ℕ) (d : Numbers) (within : i < length table) (h : ℕ) (before : IsCommonFrame (take i table) h) where
+module _ (table : List Numbers) (i : ℕ) (d : Numbers) (within : i < length table) (h : ℕ) (before : IsLeastMultiple (take i table) h) where
   abbrev period : ℕ
   period = (get_or table i d).period
 
@@ -32,9 +32,9 @@ module _ (table : List Numbers) (i : ℕ) (d : Numbers) (within : i < length tab
       let both = and_parts _ _ (sym (list_all_more (λ n. eqb (m % n.period) 0) table i d within) ∙ all) in
       (both.0, eqb-true (m % period) 0 both.1)
 
-  -- the common frame of one period more is joined from that of the periods before and this one
-  pub frame_more : (l : ℕ) → IsJoined h period l → IsCommonFrame (take (i + 1) table) l
-  frame_more l joined = record {
+  -- that of one period more is joined from that of the periods before and this one
+  pub joined_more : (l : ℕ) → IsJoined h period l → IsLeastMultiple (take (i + 1) table) l
+  joined_more l joined = record {
     frame = joined.frame;
     common = list_all_more (λ n. eqb (l % n.period) 0) table i d within ∙ and_from _ _ (kept (take i table) before.common) (eq-eqb (l % period) 0 joined.second);
     each = λ m all. let both = parts m all in joined.each m (before.each m both.0) both.1;
@@ -57,15 +57,15 @@ module _ (table : List Numbers) (i : ℕ) (d : Numbers) (within : i < length tab
       let both = parts m first in
       cannot m low near (before.each m both.0) both.1)
 
--- what has none has no common frame
-pub none_is : (table : List Numbers) → HasNoFrame table → None ≡ common_frame table
-unfolding common_frame
+-- a table without a frame has none
+pub none_is : (table : List Numbers) → HasNoFrame table → None ≡ least_multiple table
+unfolding least_multiple
 none_is table none = sym (least_none (is_common table) horizon 0 (λ m low high. none m low (omega (arith, high))))
 
--- the common frame is what it is defined to be
-pub frame_is : (table : List Numbers) (h : ℕ) → IsCommonFrame table h → Some h ≡ common_frame table
-unfolding common_frame
-frame_is table h common =
+-- it is what it is defined to be
+pub multiple_is : (table : List Numbers) (h : ℕ) → IsLeastMultiple table h → Some h ≡ least_multiple table
+unfolding least_multiple
+multiple_is table h common =
     let both = and_parts (leb 1 h) (leb h horizon) common.frame in
     let low = leb-true 1 h both.0 in
     let near = leb-true h horizon both.1 in
@@ -78,6 +78,6 @@ frame_is table h common =
     } in
     sym (least_some (is_common table) horizon 0 horizon h first (omega (arith, near)))
 
--- once every period is joined, the frame is the table's
-pub all_joined : (table : List Numbers) (i h : ℕ) → length table ≤ i → IsCommonFrame (take i table) h → IsCommonFrame table h
-all_joined table i h done common = subst (λ ns. IsCommonFrame ns h) (take_all i table done) common
+-- once every period is joined, it is the table's
+pub all_joined : (table : List Numbers) (i h : ℕ) → length table ≤ i → IsLeastMultiple (take i table) h → IsLeastMultiple table h
+all_joined table i h done common = subst (λ ns. IsLeastMultiple ns h) (take_all i table done) common

@@ -1,24 +1,16 @@
--- A row more that is counted both ways.
-use Rattle.std.proofs.Common.{◌≡◌, ℕ, ◌+◌, ◌-◌, List, [], ◌∷◌, ◌++◌, map, length, Ok, Result, sym, ap, ◌∙◌, ap₂, arith}
+-- A row more that is counted.
+use Rattle.std.proofs.Common.{◌≡◌, ℕ, ◌+◌, ◌-◌, List, [], ◌∷◌, ◌++◌, map, length, sym, ap, ◌∙◌, ap₂, arith}
 use Rattle.std.specs.List.{insert}
 use Rattle.std.proofs.lemmas.List.Edits.{insert_end}
 use Rattle.std.proofs.lemmas.List.{append_assoc, append-nil, length-map, map_push}
 use Rattle.rows.specs.declared.frames.FrameNumbers.{FrameNumbers}
-use Rattle.rows.specs.declared.refusals.Fault.{Fault}
 use Rattle.rows.specs.declared.tasks.Row.{Row}
 use Rattle.rows.specs.declared.verdicts.Finding.{Finding}
 use Rattle.rows.specs.Found.{tells}
-use Rattle.rows.specs.Answers.{answer, checked}
-use Rattle.rows.specs.Books.{Book}
-use Rattle.rows.proofs.Checks.{answered_is}
 use Rattle.bounds.specs.Meaning.{Meaning}
-use Rattle.bounds.specs.Supplied.{exact_steps}
-use Rattle.findings.specs.Asking.{question_checks}
 use Rattle.findings.specs.Findings.{row_finding}
 use Rattle.findings.specs.Tables.{findings_below, findings_of}
 use Rattle.findings.proofs.Tables.{length_findings_below}
-use Rattle.brackets.specs.declared.counting.Counts.{Counts}
-use Rattle.brackets.specs.Counting.{both_found, row_counts}
 
 module _ (m : Meaning) (h : FrameNumbers) where
   -- the findings of rows and one more
@@ -35,14 +27,6 @@ module _ (m : Meaning) (h : FrameNumbers) where
   -- there are as many of them as rows
   pub as_many : (rows : List Row) (list : List Finding) → map tells list ≡ findings_of m h rows → length list ≡ length rows
   as_many rows list are = sym (length-map list tells) ∙ ap length are ∙ length_findings_below m h [] rows
-
--- both findings of a row below a table are told
-pub both_counted : (m : Meaning) (r : Row) (above : Book) (counts : Result Counts Fault) (c : Counts) → counts ≡ Ok c
-    → answer both_found counts ≡ checked (question_checks r above) (row_counts m above.frame r above.rows)
-    → (tells c.exact ≡ row_finding exact_steps above.frame r above.rows) × (tells c.bounded ≡ row_finding m above.frame r above.rows)
-both_counted m r above counts c is answered =
-    let both = answered_is both_found (question_checks r above) (row_counts m above.frame r above.rows) counts c answered is in
-    (ap (λ p. p.0) both, ap (λ p. p.1) both)
 
 -- a row that is put in below the last of a table stands behind its rows
 pub put_last : (rows : List Row) (rank : ℕ) (r : Row) → rank ≡ length rows + 1 → insert rows (rank - 1) r ≡ rows ++ r ∷ []

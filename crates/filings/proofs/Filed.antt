@@ -9,8 +9,10 @@ use Rattle.rows.specs.Answers.{answer, checked, gives}
 use Rattle.rows.specs.Books.{IsJudged, book}
 use Rattle.rows.specs.Found.{tells}
 use Rattle.rows.specs.Times.{is_frame}
-use Rattle.bounds.specs.Families.{bound_numbers}
+use Rattle.bounds.specs.Families.{family_meaning, supplied_plain}
+use Rattle.bounds.proofs.Numbered.{means_plain}
 use Rattle.bounds.specs.Values.{meaning_of}
+use Rattle.findings.specs.Tables.{findings_of}
 use Rattle.leaves.specs.declared.entries.Heading.{Heading}
 use Rattle.leaves.specs.Contents.{Contents, contents}
 use Rattle.leaves.specs.Entries.{leaf_length}
@@ -18,27 +20,28 @@ use Rattle.writing.specs.Whole.{file_checks, IsFiled}
 use Rattle.sheets.specs.Answers.{IsPut}
 use Rattle.sheets.specs.Tables.{on_sheet}
 use Rattle.sheets.proofs.Leaves.{leaf_lawful, put_answers, puts}
-use Rattle.filings.specs.Filings.{Filed, findings_by, heading_numbers, IsLeafOfCount}
+use Rattle.filings.specs.Filings.{Filed, filed_findings, heading_numbers, IsLeafOfCount}
 
 -- a frame has a length from 1 tick on
 pub frame_low : (h : ℕ) → is_frame h ≡ true → 1 ≤ h
 frame_low h frame = leb-true 1 h (and_parts _ _ frame).0
 
 -- a leaf that is filed with the rows of a counted table and their findings is the leaf of the count
-pub filed_so : (h : Heading) (f : Filed) (rows : List Row) (fs : List Finding) (old new : List ℕ) (r : Result ℕ Fault) → h.frame ≡ f.frame → rows ≡ f.rows → IsJudged (book f.frame f.rows)
-    → map tells fs ≡ findings_by (meaning_of h.bound) f
+pub filed_so : (h : Heading) (f : Filed) (rows : List Row) (fs : List Finding) (old new : List ℕ) (r : Result ℕ Fault) → h.frame ≡ f.frame → supplied_plain h.bound ≡ f.bound → rows ≡ f.rows → IsJudged (book f.frame f.rows)
+    → map tells fs ≡ filed_findings f
     → answer (λ n. n) r ≡ checked (file_checks h.frame rows fs (length old)) (leaf_length (length rows))
     → IfOk r (λ n. IsFiled (contents h rows fs) old new n) → OnErr r (new ≡ old)
-    → (c : Contents) × IsLeafOfCount (heading_numbers f.frame (bound_numbers h.bound).0 (bound_numbers h.bound).1) f (findings_by (meaning_of h.bound) f) c × IsPut (gives c) old new r
-filed_so h f rows fs old new r frame are judged found told filed refused =
+    → (c : Contents) × IsLeafOfCount f c × IsPut (gives c) old new r
+filed_so h f rows fs old new r frame bound are judged found told filed refused =
     let c = contents h rows fs in
     let same : book h.frame rows ≡ book f.frame f.rows = ap₂ book frame are in
-    let here : map tells fs ≡ findings_by (meaning_of h.bound) (record { frame = h.frame; accuracy = f.accuracy; rows = rows }) = found ∙ ap₂ (λ k rs. findings_by (meaning_of h.bound) (record { frame = k; accuracy = f.accuracy; rows = rs })) (sym frame) (sym are) in
+    let meant : family_meaning f.bound.0 f.bound.1 ≡ meaning_of h.bound = sym (means_plain h.bound ∙ ap (λ b. family_meaning b.0 b.1) bound) in
+    let here : map tells fs ≡ findings_of (meaning_of h.bound) h.frame rows = found ∙ ap₂ (λ m b. findings_of m b.frame b.rows) meant (sym same) in
     let lawful = leaf_lawful (on_sheet h rows) fs (subst IsJudged (sym same) judged) here in (
       c,
       record {
         lawful = lawful;
-        heading = ap (λ k. heading_numbers k (bound_numbers h.bound).0 (bound_numbers h.bound).1) frame;
+        heading = ap₂ heading_numbers frame bound;
         rows = are;
         findings = found;
       },

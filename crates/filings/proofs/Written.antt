@@ -13,6 +13,7 @@ use Rattle.writing.specs.Checks.{filed_row_checks}
 use Rattle.rows.specs.declared.frames.FrameNumbers.{FrameNumbers}
 use Rattle.rows.specs.declared.tasks.Numbers.{Numbers}
 use Rattle.rows.specs.declared.tasks.Row.{Row}
+use Rattle.bounds.specs.declared.families.Family.{Family}
 use Rattle.rows.specs.Answers.{checked, gives, refusal, first_refusal}
 use Rattle.rows.specs.Books.{Book, IsJudged, book}
 use Rattle.rows.specs.Counting.{is_on_frame}
@@ -82,9 +83,9 @@ module _ {p q : Phase} {old now : List ℕ} (rs : List Row) (empty : rows_in p �
       subst (λ es. FilesAll p old es s new) (sym (ap (map row) are ∙ map_push row rs r)) (file_push all one)
 
 -- of a sheet for which there is room nothing is left to be checked
-pub sheet_told : (frame : Option FrameNumbers) (accuracy : Option ℕ) (numbers : List Numbers) (size n : ℕ) → gives n ≡ checked (filing_checks frame accuracy numbers) n → sheet_length numbers ≤ size → gives n ≡ checked (sheet_checks frame accuracy numbers size) n
-sheet_told frame accuracy numbers size n given room =
-    sym (passes_on (ltb size (sheet_length numbers)) ShortBuffer 0 (gives n) (le-ltb size (sheet_length numbers) room)) ∙ passed_first (filing_checks frame accuracy numbers) (room_checks numbers size) n n given n
+pub sheet_told : (frame : Option FrameNumbers) (bound : Family × ℕ) (numbers : List Numbers) (size n : ℕ) → gives n ≡ checked (filing_checks frame bound numbers) n → sheet_length numbers ≤ size → gives n ≡ checked (sheet_checks frame bound numbers size) n
+sheet_told frame bound numbers size n given room =
+    sym (passes_on (ltb size (sheet_length numbers)) ShortBuffer 0 (gives n) (le-ltb size (sheet_length numbers) room)) ∙ passed_first (filing_checks frame bound numbers) (room_checks numbers size) n n given n
 
 -- the rows of numbers, filed behind a heading, are a sheet of these numbers
 pub sheet_written : {p q : Phase} {old between new : List ℕ} (h : Heading) (rs : List Row) (numbers : List Numbers) (n : HeadingNumbers) (end_at : ℕ) → Files Opening old (heading h) p between → FilesAll p between (map row rs) q new

@@ -3,24 +3,20 @@ use Rattle.std.specs.Prelude.{ℕ, not, List, [], ◌∷◌, ◌++◌, is_some, 
 use Rattle.std.specs.Option.{unwrap_or}
 use Rattle.rows.specs.declared.frames.FrameNumbers.{FrameNumbers}
 use Rattle.rows.specs.declared.judging.Flaw.TheVariants.{Off}
-use Rattle.rows.specs.declared.refusals.Refusal.TheVariants.{BadFrame, BadAccuracy}
+use Rattle.rows.specs.declared.refusals.Refusal.TheVariants.{BadFrame}
 use Rattle.rows.specs.declared.tasks.Numbers.{Numbers}
 use Rattle.rows.specs.Answers.{Check, check}
 use Rattle.rows.specs.Books.{flawless_checks}
-use Rattle.rows.specs.Frames.{frame_of, frame_checks as judgement}
+use Rattle.rows.specs.Frames.{frame_of, frame_checks}
 use Rattle.rows.specs.Judging.{row_flaws, table_flaw_check}
-use Rattle.bounds.specs.Meaning.{is_accuracy}
+use Rattle.bounds.specs.declared.families.Family.{Family}
+use Rattle.bounds.specs.Families.{family_accuracy_checks}
 use Rattle.filings.specs.Frames.{common_frame}
 
 -- of a frame that is given: bad frame
-abbrev pub frame_checks : Option FrameNumbers → List Check
-frame_checks (Some h) = judgement h
-frame_checks None = []
-
--- of an accuracy that is given: bad accuracy
-abbrev pub accuracy_checks : Option ℕ → List Check
-accuracy_checks (Some k) = check (not (is_accuracy k)) BadAccuracy 0 ∷ []
-accuracy_checks None = []
+abbrev pub given_frame_checks : Option FrameNumbers → List Check
+given_frame_checks (Some h) = frame_checks h
+given_frame_checks None = []
 
 -- of the periods of a table: off frame with the smallest rank concerned, where a frame is given; else bad frame, where
 -- there is no common one
@@ -33,11 +29,11 @@ period_check None table = check (not (is_some (common_frame table))) BadFrame 0
 abbrev pub table_checks : Option FrameNumbers → List Numbers → List Check
 table_checks frame table = flawless_checks row_flaws table ++ period_check frame table ∷ []
 
--- all of it, in order: the frame, the accuracy, the table
-abbrev pub filing_checks : Option FrameNumbers → Option ℕ → List Numbers → List Check
-filing_checks frame accuracy table = frame_checks frame ++ (accuracy_checks accuracy ++ table_checks frame table)
+-- all of it, in order: the frame, the accuracy of the bound that is named, the table
+abbrev pub filing_checks : Option FrameNumbers → Family × ℕ → List Numbers → List Check
+filing_checks frame bound table = given_frame_checks frame ++ (family_accuracy_checks bound.0 bound.1 ++ table_checks frame table)
 
 -- the frame of a table: the one that is given, or else the common one
 abbrev pub frame_for : Option FrameNumbers → List Numbers → FrameNumbers
 frame_for (Some h) table = h
-frame_for None table = frame_of (unwrap_or (common_frame table) 0)
+frame_for None table = unwrap_or (common_frame table) (frame_of 0)

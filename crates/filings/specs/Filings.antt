@@ -1,45 +1,38 @@
--- A table that was counted twice, and its leaves.
+-- A table that was counted by one bound, and its leaf.
 use Rattle.std.specs.Prelude.{◌≡◌, ℕ, List, map}
 use Rattle.rows.specs.declared.frames.FrameNumbers.{FrameNumbers}
 use Rattle.rows.specs.declared.tasks.Row.{Row}
-use Rattle.bounds.specs.Meaning.{Meaning}
-use Rattle.bounds.specs.Supplied.{exact_steps, linear_tail}
 use Rattle.rows.specs.Found.{Found, tells}
+use Rattle.bounds.specs.declared.families.Family.{Family}
+use Rattle.bounds.specs.Families.{family_meaning, family_number}
 use Rattle.findings.specs.Tables.{findings_of}
 use Rattle.leaves.specs.declared.entries.HeadingNumbers.{HeadingNumbers}
 use Rattle.leaves.specs.Contents.{Contents, IsLawful}
 use Rattle.leaves.specs.Headings.{heading_plain}
 
--- a table that was counted: its frame, the accuracy of the linear tail, and its rows in rank order
+-- a table that was counted by one bound: its frame, the kind of the bound with the accuracy that is told with it, and
+-- the rows in rank order
 pub record Filed : Type 0 where
   pub frame : FrameNumbers
-  pub accuracy : ℕ
+  pub bound : Family × ℕ
   pub rows : List Row
 
 -- a counted table, written out
-abbrev pub filed : FrameNumbers → ℕ → List Row → Filed
-filed h k rows = record { frame = h; accuracy = k; rows = rows }
+abbrev pub filed : FrameNumbers → Family × ℕ → List Row → Filed
+filed h b rows = record { frame = h; bound = b; rows = rows }
 
--- the findings of a filing by a bound
-abbrev pub findings_by : Meaning → Filed → List Found
-findings_by m f = findings_of m f.frame f.rows
+-- the findings about its rows, by what the bound means
+abbrev pub filed_findings : Filed → List Found
+filed_findings f = findings_of (family_meaning f.bound.0 f.bound.1) f.frame f.rows
 
--- the findings of a filing in exact steps
-abbrev pub exact_findings : Filed → List Found
-exact_findings f = findings_by exact_steps f
+-- the numbers of a heading: the frame, the number of the kind of the bound, and the accuracy
+abbrev pub heading_numbers : FrameNumbers → Family × ℕ → HeadingNumbers
+heading_numbers h b = record { frame = h; bound = family_number b.0; accuracy = b.1 }
 
--- the findings of a filing by the linear tail
-abbrev pub bounded_findings : Filed → List Found
-bounded_findings f = findings_by (linear_tail f.accuracy) f
-
--- the numbers of a heading: the frame, the bound by its number, and its accuracy
-abbrev pub heading_numbers : FrameNumbers → ℕ → ℕ → HeadingNumbers
-heading_numbers h bound k = record { frame = h; bound = bound; accuracy = k }
-
--- contents are a leaf of a counted table: they have these numbers in the heading, the rows of the table, and findings
--- that tell these
-pub record IsLeafOfCount (n : HeadingNumbers) (f : Filed) (found : List Found) (c : Contents) : Type 0 where
+-- contents are the leaf of a counted table: the heading tells its frame and its bound, the rows are those of the table,
+-- and the findings tell what the bound finds
+pub record IsLeafOfCount (f : Filed) (c : Contents) : Type 0 where
   pub lawful : IsLawful c
-  pub heading : heading_plain c.heading ≡ n
+  pub heading : heading_plain c.heading ≡ heading_numbers f.frame f.bound
   pub rows : c.rows ≡ f.rows
-  pub findings : map tells c.findings ≡ found
+  pub findings : map tells c.findings ≡ filed_findings f

@@ -2,7 +2,10 @@
 use Rattle.std.specs.Prelude.{IsTrue, ◌≡◌, ℕ, ◌*◌, ◌%◌, ◌≤◌, Bool, false, List, Option, ◌==◌}
 use Rattle.std.specs.List.{list_all}
 use Rattle.std.specs.Int.{IsGcd}
+use Rattle.std.specs.Option.{option_map}
+use Rattle.rows.specs.declared.frames.FrameNumbers.{FrameNumbers}
 use Rattle.rows.specs.declared.tasks.Numbers.{Numbers}
+use Rattle.rows.specs.Frames.{frame_of}
 use Rattle.rows.specs.Times.{horizon, is_frame}
 use Rattle.bounds.specs.Instants.{least}
 
@@ -10,15 +13,23 @@ use Rattle.bounds.specs.Instants.{least}
 abbrev pub is_common : List Numbers → ℕ → Bool
 is_common table m = list_all (λ n. m % n.period == 0) table
 
--- the common frame of a table: the least common multiple of its periods that lies from 1 to the horizon, if there is one
-unfoldable pub common_frame : List Numbers → Option ℕ
-common_frame table = least (is_common table) horizon 1
+-- the least common multiple of the periods of a table that lies from 1 to the horizon, if there is one
+unfoldable pub least_multiple : List Numbers → Option ℕ
+least_multiple table = least (is_common table) horizon 1
 
--- h is the common frame: a frame and a common multiple of the periods, which divides every other
-pub record IsCommonFrame (table : List Numbers) (h : ℕ) : Type 0 where
+-- the common frame of a table has that length
+abbrev pub common_frame : List Numbers → Option FrameNumbers
+common_frame table = option_map frame_of (least_multiple table)
+
+-- h is the length of the common frame: a frame and a common multiple of the periods, which divides every other
+pub record IsLeastMultiple (table : List Numbers) (h : ℕ) : Type 0 where
   pub frame : IsTrue (is_frame h)
   pub common : IsTrue (is_common table h)
   pub each : (m : ℕ) → IsTrue (is_common table m) → m % h ≡ 0
+
+-- a frame is the common frame: its length is a common multiple of the periods, which divides every other
+abbrev pub IsCommonFrame : List Numbers → FrameNumbers → Type 0
+IsCommonFrame table h = IsLeastMultiple table h.ticks
 
 -- a table has no common frame: no number from 1 to the horizon is a common multiple of the periods
 abbrev pub HasNoFrame : List Numbers → Type 0

@@ -1,16 +1,16 @@
 -- The sheet of a table of numbers.
-use Rattle.std.specs.Prelude.{◌≡◌, ℕ, List, [], ◌∷◌, ◌++◌, map, length, Some, None, Option, nat_lt}
+use Rattle.std.specs.Prelude.{◌≡◌, ℕ, List, [], ◌∷◌, ◌++◌, map, length, Option, nat_lt}
 use Rattle.rows.specs.declared.frames.FrameNumbers.{FrameNumbers}
 use Rattle.rows.specs.declared.refusals.Refusal.TheVariants.{ShortBuffer}
 use Rattle.rows.specs.declared.tasks.Numbers.{Numbers}
 use Rattle.rows.specs.Answers.{Check, check}
 use Rattle.rows.specs.Judging.{plain, rows_of}
+use Rattle.bounds.specs.declared.families.Family.{Family}
 use Rattle.leaves.specs.declared.entries.HeadingNumbers.{HeadingNumbers}
 use Rattle.leaves.specs.Entries.{row_place}
 use Rattle.leaves.specs.Headings.{heading_plain}
 use Rattle.sheets.specs.Tables.{OnSheet, IsLawfulSheet}
 use Rattle.filings.specs.Checks.{filing_checks}
-use Rattle.filings.specs.Filings.{heading_numbers}
 
 -- how many bytes the sheet of a table of numbers has
 abbrev pub sheet_length : List Numbers → ℕ
@@ -21,17 +21,8 @@ abbrev pub room_checks : List Numbers → ℕ → List Check
 room_checks table size = check (nat_lt size (sheet_length table)) ShortBuffer 0 ∷ []
 
 -- what is checked before it is written, in order: all that is checked of the table, and then the buffer
-abbrev pub sheet_checks : Option FrameNumbers → Option ℕ → List Numbers → ℕ → List Check
-sheet_checks frame accuracy table size = filing_checks frame accuracy table ++ room_checks table size
-
--- the numbers of a bound: the linear tail of an accuracy that is given, or else exact steps
-abbrev pub bound_pair : Option ℕ → ℕ × ℕ
-bound_pair (Some k) = (1, k)
-bound_pair None = (0, 0)
-
--- the numbers of its heading: a frame and such a bound
-abbrev pub heading_for : FrameNumbers → Option ℕ → HeadingNumbers
-heading_for h accuracy = heading_numbers h (bound_pair accuracy).0 (bound_pair accuracy).1
+abbrev pub sheet_checks : Option FrameNumbers → Family × ℕ → List Numbers → ℕ → List Check
+sheet_checks frame bound table size = filing_checks frame bound table ++ room_checks table size
 
 -- a table to be surveyed is that of numbers and the numbers of a heading: it is lawful, and its rows are those of the
 -- numbers

@@ -1,16 +1,25 @@
-// The least common multiple of the periods of a table.
+// The common frame of a table.
 ghost use Rattle.std.specs.Prelude.{IsTrue, ◌≡◌, MatchOption};
 ghost use Rattle.rows.specs.Times.{is_frame};
-ghost use Rattle.filings.specs.Frames.{common_frame, IsCommonFrame, HasNoFrame, IsJoined, CannotBeJoined, DividesBoth};
+ghost use Rattle.filings.specs.Frames.{common_frame, least_multiple, IsCommonFrame, IsLeastMultiple, HasNoFrame, IsJoined, CannotBeJoined, DividesBoth};
 
-use rows::{HORIZON, Numbers};
+use rows::{Frame, FrameNumbers, HORIZON, Numbers};
 
-/// The common frame of a table (docs/RULES.md, Frame and parts): the least common multiple of its
-/// periods in ticks, where that lies from 1 to the horizon; of an empty table 1. A period of 0 has
-/// no multiple but 0, so that there is none.
-pub fn common_frame(table: &[Numbers]) -> Option<u32>
+/// The common frame of a table (docs/RULES.md, Frame and parts): its length is the least common
+/// multiple of the periods in ticks, where that lies from 1 to the horizon; of an empty table 1. A
+/// period of 0 has no multiple but 0, so that there is none.
+pub fn common_frame(table: &[Numbers]) -> Option<Frame>
     ensures answered { result ≡ common_frame table.now }
     ensures least { MatchOption result (HasNoFrame table.now) (IsCommonFrame table.now) }
+{
+    let ticks = least_multiple(table)?;
+    FrameNumbers { ticks }.judge().ok()
+}
+
+// The least common multiple of the periods of a table, where it is a frame.
+fn least_multiple(table: &[Numbers]) -> Option<u32>
+    ensures answered { result ≡ least_multiple table.now }
+    ensures least { MatchOption result (HasNoFrame table.now) (IsLeastMultiple table.now) }
 {
     let mut frame = 1;
     for numbers in table {

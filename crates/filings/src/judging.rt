@@ -3,14 +3,14 @@ ghost use Rattle.std.specs.Prelude.{◌≡◌, map, None, IfOk, OnOk};
 ghost use Rattle.rows.specs.Answers.{answer, checked};
 ghost use Rattle.rows.specs.Books.{book, plain_book};
 ghost use Rattle.rows.specs.Judging.{plain, rows_of};
-ghost use Rattle.filings.specs.Checks.{frame_checks, table_checks, frame_for};
+ghost use Rattle.filings.specs.Checks.{given_frame_checks, table_checks, frame_for};
 
 use crate::frames::common_frame;
 use rows::{Fault, Frame, FrameNumbers, Numbers, Refusal, Table, judge_rows};
 
 // The frame that is given, if one is, judged.
 pub(crate) fn judge_frame(frame: Option<FrameNumbers>) -> Result<Option<Frame>, Fault>
-    ensures { answer (λ f. f) result ≡ checked (frame_checks frame) frame }
+    ensures { answer (λ f. f) result ≡ checked (given_frame_checks frame) frame }
 {
     match frame {
         Some(numbers) => Ok(Some(numbers.judge()?)),
@@ -40,7 +40,7 @@ fn judge_on_common(table: &[Numbers]) -> Result<Table, Fault>
 {
     judge_rows(table)?;
     match common_frame(table) {
-        Some(ticks) => Table::judge(&FrameNumbers { ticks }.judge().unwrap(), table),
+        Some(frame) => Table::judge(&frame, table),
         None => Err(Refusal::BadFrame.at(0)),
     }
 }

@@ -1,4 +1,4 @@
-//! A table of plain numbers judged, given a frame, counted twice and filed as two leaves; and its
+//! A table of plain numbers judged, given a frame, counted by one bound and filed as a leaf; and its
 //! sheet.
 #![tactic(auto)]
 
@@ -9,7 +9,7 @@ mod judging;
 mod progress;
 mod sheet_writing;
 
-pub use counting::count;
+pub use counting::{count, count_by};
 pub use filings::Filing;
 pub use frames::common_frame;
 pub use progress::{Progress, Quiet};

@@ -1,6 +1,6 @@
 use Rattle.std.proofs.Common.{◌∙◌, arith}
-use Rattle.filings.proofs.CommonFrames.{all_joined, frame_is, frame_more, none_is, none_more, nothing}
-use Rattle.filings.proofs.frames.common_frame.Goals as goal
+use Rattle.filings.proofs.CommonFrames.{all_joined, multiple_is, joined_more, none_is, none_more, nothing}
+use Rattle.filings.proofs.frames.least_multiple.Goals as goal
 
 pub returns-in_err-frame-clause-answered : goal.returns-in_err-frame-clause-answered
 returns-in_err-frame-clause-answered c =
@@ -12,8 +12,8 @@ returns-in_err-frame-clause-least c =
 
 pub loop-numbers-preserved : goal.loop-numbers-preserved
 loop-numbers-preserved c =
-    frame_more c.args.table.now c.loop-numbers.numbers-index nothing c.loop-numbers-test.true c.loop-numbers.frame c.loop-numbers.invariant c.in_ok-frame.frame c.in_ok-frame.ensures
+    joined_more c.args.table.now c.loop-numbers.numbers-index nothing c.loop-numbers-test.true c.loop-numbers.frame c.loop-numbers.invariant c.in_ok-frame.frame c.in_ok-frame.ensures
 
 pub returns-clause-answered : goal.returns-clause-answered
 returns-clause-answered c =
-    frame_is c.args.table.now c.loop-numbers.frame (all_joined c.args.table.now c.loop-numbers.numbers-index c.loop-numbers.frame (omega (arith, c.loop-numbers-test.false)) c.loop-numbers.invariant)
+    multiple_is c.args.table.now c.loop-numbers.frame (all_joined c.args.table.now c.loop-numbers.numbers-index c.loop-numbers.frame (omega (arith, c.loop-numbers-test.false)) c.loop-numbers.invariant)

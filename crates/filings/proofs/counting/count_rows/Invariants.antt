@@ -1,8 +1,0 @@
-use Rattle.std.proofs.Common.{◌≡◌, take}
-use Rattle.bounds.specs.Values.{accuracy_of}
-use Rattle.filings.specs.Filings.{filed}
-use Rattle.filings.proofs.counting.count_rows.Given as goal
-
--- so far the rows of the places seen are counted
-abbrev pub invariant-loop-i : goal.invariant-loop-i
-invariant-loop-i g l = l.filing ≡ filed l.fn.table.frame (accuracy_of l.fn.tail) (take l.i l.fn.table.rows)
