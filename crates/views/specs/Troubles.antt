@@ -8,6 +8,7 @@ use Rattle.rows.specs.declared.refusals.Fault.{Fault}
 use Rattle.rows.specs.declared.refusals.Refusal.{Refusal}
 use Rattle.rows.specs.declared.refusals.Refusal.TheVariants.{BadFrame, BadAccuracy}
 use Rattle.rows.specs.Answers.{refuses, first_refusal, Passes}
+use Rattle.bounds.specs.declared.families.Family.{Family}
 use Rattle.leaves.specs.Contents.{Contents}
 use Rattle.reading.specs.Whole.{Fits}
 use Rattle.filings.specs.Checks.{filing_checks}
@@ -29,34 +30,34 @@ is_of_row BadAccuracy = false
 is_of_row _ = true
 
 -- a trouble tells a refusal of numbers: a bad frame that was named, or that there is none where none was named; a bad
--- accuracy; or that of a row. Where memory ran out, it is not told
-abbrev pub TroubleTells : Option FrameNumbers → Refusal → Trouble → Type 0
-TroubleTells frame refusal trouble.Frame = (is_some frame ≡ true) × (refusal ≡ BadFrame)
-TroubleTells frame refusal trouble.NoFrame = (frame ≡ None) × (refusal ≡ BadFrame)
-TroubleTells frame refusal trouble.Accuracy = refusal ≡ BadAccuracy
-TroubleTells frame refusal (trouble.Row m) = (refusal_told m ≡ Some refusal) × (is_of_row refusal ≡ true)
-TroubleTells frame refusal (trouble.Memory e) = Unit {0}
-TroubleTells frame refusal _ = ⊥
+-- accuracy of the kind of bound that was named; or that of a row. Where memory ran out, it is not told
+abbrev pub TroubleTells : Option FrameNumbers → Family → Refusal → Trouble → Type 0
+TroubleTells frame family refusal trouble.Frame = (is_some frame ≡ true) × (refusal ≡ BadFrame)
+TroubleTells frame family refusal trouble.NoFrame = (frame ≡ None) × (refusal ≡ BadFrame)
+TroubleTells frame family refusal (trouble.Accuracy named) = (named ≡ family) × (refusal ≡ BadAccuracy)
+TroubleTells frame family refusal (trouble.Row m) = (refusal_told m ≡ Some refusal) × (is_of_row refusal ≡ true)
+TroubleTells frame family refusal (trouble.Memory e) = Unit {0}
+TroubleTells frame family refusal _ = ⊥
 
--- the numbers of a table are refused, on the frame and by the accuracy that are named, and the first of the refusals is
+-- the numbers of a table are refused, on the frame and by the bound that are named, and the first of the refusals is
 -- told
-pub record TellsFirst (frame : Option FrameNumbers) (accuracy : Option ℕ) (table : TaskTable) (t : Trouble) : Type 0 where
+pub record TellsFirst (frame : Option FrameNumbers) (bound : Family × ℕ) (table : TaskTable) (t : Trouble) : Type 0 where
   pub refusal : Refusal
   pub at : ℕ
-  pub first : refuses refusal at ≡ first_refusal (filing_checks frame accuracy (table_numbers table))
-  pub told : TroubleTells frame refusal t
+  pub first : refuses refusal at ≡ first_refusal (filing_checks frame bound (table_numbers table))
+  pub told : TroubleTells frame bound.0 refusal t
 
 -- a trouble tells the first refusal of the table that was read
-pub record TellsRefusal (held : Option (List ℕ)) (frame : Option FrameNumbers) (accuracy : Option ℕ) (t : Trouble) : Type 0 where
+pub record TellsRefusal (held : Option (List ℕ)) (frame : Option FrameNumbers) (bound : Family × ℕ) (t : Trouble) : Type 0 where
   pub table : TaskTable
   pub read : ReadsAll held table
-  pub refused : TellsFirst frame accuracy table t
+  pub refused : TellsFirst frame bound table t
 
 -- a table that was read passes its checks and has so many rows, and none of this rank
-pub record LacksRank (held : Option (List ℕ)) (frame : Option FrameNumbers) (accuracy : Option ℕ) (rank rows : ℕ) : Type 0 where
+pub record LacksRank (held : Option (List ℕ)) (frame : Option FrameNumbers) (bound : Family × ℕ) (rank rows : ℕ) : Type 0 where
   pub table : TaskTable
   pub read : ReadsAll held table
-  pub passed : Passes (filing_checks frame accuracy (table_numbers table))
+  pub passed : Passes (filing_checks frame bound (table_numbers table))
   pub count : rows ≡ length (table_numbers table)
   pub lacks : (rank ≡ 0) ⊎ (rows < rank)
 
@@ -79,11 +80,11 @@ TellsDifference c d (trouble.Different difference) = Differ difference c d
 TellsDifference c d (trouble.Memory e) = Unit {0}
 TellsDifference c d _ = ⊥
 
--- what a view is of: a table that a reader holds, with the frame and the accuracy that are named; the row of a rank of
+-- what a view is of: a table that a reader holds, with the frame and the bound that are named; the row of a rank of
 -- such a table; two leaves that readers hold, by their names; one leaf; or what was read before
 pub data Subject : Type 0 where
-  of_table : Option (List ℕ) → Option FrameNumbers → Option ℕ → Subject
-  of_row : ℕ → Option (List ℕ) → Option FrameNumbers → Option ℕ → Subject
+  of_table : Option (List ℕ) → Option FrameNumbers → Family × ℕ → Subject
+  of_row : ℕ → Option (List ℕ) → Option FrameNumbers → Family × ℕ → Subject
   of_leaves : List ℕ → Option (List ℕ) → List ℕ → Option (List ℕ) → Subject
   of_leaf : Subject
   of_nothing : Subject
@@ -92,11 +93,11 @@ pub data Subject : Type 0 where
 -- told. Its numbers are refused. It has no row of the rank. A leaf is damaged, the first or else the second. Two leaves
 -- differ. An input fails, other than by being interrupted. Of memory nothing is said, and no other trouble can be
 abbrev pub IsTroubleOf : Subject → Trouble → Type 0
-IsTroubleOf (of_table held h k) (trouble.Table e) = is_misread e ≡ true → ReadsNone held
-IsTroubleOf (of_table held h k) t = TellsRefusal held h k t
-IsTroubleOf (of_row rank held h k) (trouble.Table e) = is_misread e ≡ true → ReadsNone held
-IsTroubleOf (of_row rank held h k) (trouble.Rank rows) = LacksRank held h k rank rows
-IsTroubleOf (of_row rank held h k) t = TellsRefusal held h k t
+IsTroubleOf (of_table held h b) (trouble.Table e) = is_misread e ≡ true → ReadsNone held
+IsTroubleOf (of_table held h b) t = TellsRefusal held h b t
+IsTroubleOf (of_row rank held h b) (trouble.Table e) = is_misread e ≡ true → ReadsNone held
+IsTroubleOf (of_row rank held h b) (trouble.Rank rows) = LacksRank held h b rank rows
+IsTroubleOf (of_row rank held h b) t = TellsRefusal held h b t
 IsTroubleOf (of_leaves a one b other) (trouble.Damaged d) = IsDamaged a one d ⊎ (HeldLeaf one true × IsDamaged b other d)
 IsTroubleOf (of_leaves a one b other) (trouble.Different d) = HeldBoth (Differ d) one other
 IsTroubleOf (of_leaves a one b other) (trouble.Input e) = error_kind e ≢ Interrupted

@@ -1,34 +1,50 @@
 // A task table read and counted twice.
-ghost use Rattle.std.specs.Prelude.{◌≡◌, ◌≤◌, length, take, Some, IfOk, IfErr, IsOkAnd};
+ghost use Rattle.std.specs.Prelude.{◌≡◌, ◌≤◌, length, take, IfOk, IfErr, IsOkAnd};
 ghost use Rattle.task_tables.specs.Tables.{ReadsAll};
-ghost use Rattle.views.specs.Counted.{table_of, filed_of, IsCountOf, IsExactLeaf, IsLinearLeaf};
+ghost use Rattle.views.specs.Counted.{IsCountOf, IsLeafOf};
 ghost use Rattle.views.specs.Troubles.{IsTroubleOf, TroubleTells, TellsFirst, of_table};
 
 use crate::troubles::Trouble;
-use filings::{Filing, Progress, count};
+use bounds::{Family, Supplied};
+use filings::{Filing, Progress, count, count_by};
 use rows::{Fault, FrameNumbers, Refusal};
 use sheets::MOST_ANSWER;
 use std::alloc::{AllocError, Global};
 use std::io::Read;
+use std::marker::Model;
 use task_tables::{TaskTable, read};
 
 /// How a table is counted: on which frame, where one is named, else on the least common multiple of the
-/// periods; and by the linear tail of which accuracy, from 1 to 64 (docs/PROGRAMS.md, Task tables).
+/// periods; and by which bound, named by its kind and an accuracy, which is 0 where there is but one of the
+/// kind and else from 1 to 64 (docs/PROGRAMS.md, Task tables).
 #[derive(Clone, Copy)]
 pub struct Counting {
     pub frame: Option<FrameNumbers>,
+    pub family: Family,
     pub accuracy: u32,
 }
 
-/// A task table that was read and counted, in exact steps and by a linear tail.
+/// A task table that was read and counted, by the bound that was named and in exact steps.
 #[derive(Drop)]
 pub struct Counted {
-    pub(crate) table: TaskTable,
-    pub(crate) filing: Filing,
+    table: TaskTable,
+    bounded: Filing,
+    exact: Filing,
 }
 
-/// Reads a task table and counts it twice. The progress is told after each row (docs/PROGRAMS.md,
-/// Task tables, `yabreznul file`).
+impl Model for Counted {
+    ghost use Rattle.std.specs.Prelude.{◌≡◌};
+    ghost use Rattle.views.specs.Counted.{CountedTable, in_exact_steps};
+
+    ghost Value = { CountedTable };
+
+    ghost view = { λ c. record { table = c.table; filed = c.bounded } };
+
+    ghost invariant = { λ c. c.exact ≡ in_exact_steps c.bounded };
+}
+
+/// Reads a task table and counts it twice, by the bound that is named and in exact steps. The progress is
+/// told after each row of either count (docs/PROGRAMS.md, Task tables, `yabreznul file`).
 ///
 /// Where something is refused, the first of these is told: what cannot be taken of the text, and 9, full
 /// table; 1, bad frame, where one is named; 3, bad accuracy; 4 to 8 of the rows; and last 1, bad frame, where
@@ -39,10 +55,10 @@ pub fn count_table<R: Read, P: Progress>(
     how: Counting,
     progress: &mut P,
 ) -> Result<Counted, Trouble>
-    ensures read { IfOk result (λ c. ReadsAll (R.remaining reader.old) (table_of c)) }
-    ensures counted { IfOk result (λ c. IsCountOf how.frame how.accuracy (table_of c) (filed_of c)) }
+    ensures read { IfOk result (λ c. ReadsAll (R.remaining reader.old) c.table) }
+    ensures counted { IfOk result (λ c. IsCountOf how.frame (how.family, how.accuracy) c.table c.filed) }
     ensures refused { IfErr result (λ t.
-        IsTroubleOf (of_table (R.remaining reader.old) how.frame (Some how.accuracy)) t) }
+        IsTroubleOf (of_table (R.remaining reader.old) how.frame (how.family, how.accuracy)) t) }
 {
     match read(alloc, reader) {
         Ok(table) => count_read(alloc, table, how, progress),
@@ -57,29 +73,37 @@ fn count_read<P: Progress>(
     how: Counting,
     progress: &mut P,
 ) -> Result<Counted, Trouble>
-    ensures read { IfOk result (λ c. table_of c ≡ table) }
-    ensures counted { IfOk result (λ c. IsCountOf how.frame how.accuracy table (filed_of c)) }
-    ensures refused { IfErr result (λ t. TellsFirst how.frame (Some how.accuracy) table t) }
+    ensures read { IfOk result (λ c. c.table ≡ table) }
+    ensures counted { IfOk result (λ c. IsCountOf how.frame (how.family, how.accuracy) table c.filed) }
+    ensures refused { IfErr result (λ t. TellsFirst how.frame (how.family, how.accuracy) table t) }
 {
-    match count(how.frame, how.accuracy, table.numbers(), progress) {
-        Ok(filing) => Ok(Counted { table, filing }),
-        Err(fault) => Err(trouble(alloc, &table, how.frame, fault)),
+    match count(
+        how.frame,
+        how.family,
+        how.accuracy,
+        table.numbers(),
+        progress,
+    ) {
+        Ok(bounded) => {
+            let exact = count_by(Supplied::ExactSteps, bounded.table(), progress);
+            Ok(Counted {
+                table,
+                bounded,
+                exact,
+            })
+        }
+        Err(fault) => Err(trouble(alloc, &table, how, fault)),
     }
 }
 
-// What is told of a refusal of the numbers of a table, for which a frame was named or not.
-pub(crate) fn trouble(
-    alloc: Global,
-    table: &TaskTable,
-    frame: Option<FrameNumbers>,
-    fault: Fault,
-) -> Trouble
-    ensures { TroubleTells frame fault.refusal result }
+// What is told of a refusal of the numbers of a table, for which a frame was named or not, and a bound.
+pub(crate) fn trouble(alloc: Global, table: &TaskTable, how: Counting, fault: Fault) -> Trouble
+    ensures { TroubleTells how.frame how.family fault.refusal result }
 {
-    match (fault.refusal, frame) {
+    match (fault.refusal, how.frame) {
         (Refusal::BadFrame, Some(_)) => Trouble::Frame,
         (Refusal::BadFrame, None) => Trouble::NoFrame,
-        (Refusal::BadAccuracy, _) => Trouble::Accuracy,
+        (Refusal::BadAccuracy, _) => Trouble::Accuracy(how.family),
         _ => match table.explain(alloc, fault) {
             Ok(misread) => Trouble::Row(misread),
             Err(error) => Trouble::Memory(error),
@@ -88,25 +112,54 @@ pub(crate) fn trouble(
 }
 
 impl Counted {
+    ghost use Rattle.std.specs.Prelude.{◌≡◌, IfOk};
+    ghost use Rattle.views.specs.Counted.{IsLeafOf, in_exact_steps};
+
+    // The table that was read.
+    pub(crate) fn task_table(&self) -> &TaskTable
+        ensures { result.now ≡ self.now.table }
+    {
+        &self.table
+    }
+
+    /// The count by the bound that was named.
+    pub fn bounded(&self) -> &Filing
+        ensures { result.now ≡ self.now.filed }
+    {
+        &self.bounded
+    }
+
+    /// The count of the same rows in exact steps.
+    pub fn exact(&self) -> &Filing
+        ensures { result.now ≡ in_exact_steps self.now.filed }
+    {
+        &self.exact
+    }
+
+    /// The leaf of the count by the bound that was named: the encoding of the survey (docs/FORMAT.md).
+    /// Memory alone can fail.
+    pub fn bounded_leaf(&self, alloc: Global) -> Result<Vec<u8>, AllocError>
+        ensures { IfOk result (λ bytes. IsLeafOf self.now.filed bytes.items) }
+    {
+        leaf_of(alloc, self.bounded())
+    }
+
     /// The leaf of the count in exact steps: the encoding of the survey (docs/FORMAT.md). Memory alone
     /// can fail.
     pub fn exact_leaf(&self, alloc: Global) -> Result<Vec<u8>, AllocError>
-        ensures { IfOk result (λ bytes. IsExactLeaf (filed_of self.now) bytes.items) }
+        ensures { IfOk result (λ bytes. IsLeafOf (in_exact_steps self.now.filed) bytes.items) }
     {
-        let mut buffer = [0; MOST_ANSWER];
-        let filed = self.filing.file_exact(&mut buffer);
-        filed_in(alloc, &buffer, filed)
+        leaf_of(alloc, self.exact())
     }
+}
 
-    /// The leaf of the count by the linear tail: the encoding of the survey (docs/FORMAT.md). Memory alone
-    /// can fail.
-    pub fn linear_leaf(&self, alloc: Global) -> Result<Vec<u8>, AllocError>
-        ensures { IfOk result (λ bytes. IsLinearLeaf (filed_of self.now) bytes.items) }
-    {
-        let mut buffer = [0; MOST_ANSWER];
-        let filed = self.filing.file_bounded(&mut buffer);
-        filed_in(alloc, &buffer, filed)
-    }
+// The leaf of a count.
+fn leaf_of(alloc: Global, filing: &Filing) -> Result<Vec<u8>, AllocError>
+    ensures { IfOk result (λ bytes. IsLeafOf filing.now bytes.items) }
+{
+    let mut buffer = [0; MOST_ANSWER];
+    let filed = filing.file(&mut buffer);
+    filed_in(alloc, &buffer, filed)
 }
 
 // What was filed in front in a buffer that has room for every leaf.

@@ -2,9 +2,8 @@
 ghost use Rattle.std.specs.Prelude.{◌≡◌, ◌-◌, false, take, Some, IfErr, OnOk};
 ghost use Rattle.std.specs.Io.KnownBytes.{Keeps};
 ghost use Rattle.rows.specs.Books.{book};
-ghost use Rattle.bounds.specs.Supplied.{linear_tail};
-ghost use Rattle.bounds.specs.Values.{meaning_of};
-ghost use Rattle.views.specs.Counted.{HasRank, IsDrawnOf, IsRank, TellsRank, filed_of};
+ghost use Rattle.bounds.specs.Families.{supplied_plain};
+ghost use Rattle.views.specs.Counted.{HasRank, IsDrawnOf, IsRank, TellsRank};
 ghost use Rattle.views.specs.Troubles.{FailsBefore, is_output, of_row};
 
 use crate::counted::{Counted, Counting, count_table};
@@ -30,9 +29,9 @@ pub fn plot<R: Read, W: Write, P: Progress>(
     progress: &mut P,
     writer: &mut W,
 ) -> Result<(), Trouble>
-    ensures drawn { OnOk result (HasRank (R.remaining reader.old) how.frame how.accuracy rank) }
+    ensures drawn { OnOk result (HasRank (R.remaining reader.old) how.frame (how.family, how.accuracy) rank) }
     ensures failed { IfErr result (FailsBefore
-        (of_row rank (R.remaining reader.old) how.frame (Some how.accuracy))
+        (of_row rank (R.remaining reader.old) how.frame (how.family, how.accuracy))
         (W.contents writer.old) (W.contents writer.new)) }
 {
     match count_table(alloc, reader, how, progress) {
@@ -48,11 +47,11 @@ fn plot_counted<W: Write>(
     rank: usize,
     writer: &mut W,
 ) -> Result<(), Trouble>
-    ensures drawn { OnOk result (IsRank rank (filed_of counted.now)) }
+    ensures drawn { OnOk result (IsRank rank counted.now.filed) }
     ensures failed { IfErr result (λ t. is_output t ≡ false →
-        TellsRank rank (filed_of counted.now) t × Keeps (W.contents writer.old) (W.contents writer.new)) }
+        TellsRank rank counted.now.filed t × Keeps (W.contents writer.old) (W.contents writer.new)) }
 {
-    let table = counted.filing.table();
+    let table = counted.bounded().table();
     if rank == 0 || table.len() < rank {
         return Err(Trouble::Rank(table.len()));
     }
@@ -69,11 +68,11 @@ fn draw_row<W: Write>(
     rank: usize,
     writer: &mut W,
 ) -> io::Result<()>
-    requires { IsRank rank (filed_of counted.now) }
+    requires { IsRank rank counted.now.filed }
 {
-    let bound = Supplied::LinearTail(counted.filing.tail());
+    let bound = counted.bounded().bound();
     let short = format!(in alloc; "{}", Short(bound))?;
-    let above = counted.filing.table().above(rank);
+    let above = counted.bounded().table().above(rank);
     let drawing = drawing_of(counted, rank, &bound, short.as_str(), &above);
     draw(alloc, &drawing, writer)
 }
@@ -86,17 +85,24 @@ fn drawing_of<'a>(
     short: &'a str,
     above: &'a Table,
 ) -> Drawing<'a, Supplied>
-    requires rank { IsRank rank (filed_of counted.now) }
-    requires bound { meaning_of bound.now ≡ linear_tail (filed_of counted.now).accuracy }
+    requires rank { IsRank rank counted.now.filed }
+    requires bound { supplied_plain bound.now ≡ counted.now.filed.bound }
     requires above { above.now
-        ≡ book (filed_of counted.now).frame (take (rank - 1) (filed_of counted.now).rows) }
+        ≡ book counted.now.filed.frame (take (rank - 1) counted.now.filed.rows) }
     ensures { IsDrawnOf rank counted.now result }
 {
     let (family, _) = bound.plain();
     let names = Names {
-        task: counted.table.name(rank),
+        task: counted.task_table().name(rank),
         bound: family.name(),
         short,
     };
-    Drawing::of(names, rank, bound, &counted.filing.rows()[rank - 1], above).unwrap()
+    Drawing::of(
+        names,
+        rank,
+        bound,
+        &counted.bounded().rows()[rank - 1],
+        above,
+    )
+    .unwrap()
 }

@@ -1,12 +1,12 @@
 // A table with both counts side by side, as text.
-ghost use Rattle.std.specs.Prelude.{◌≡◌, ◌==◌, ◌<◌, ◌∷◌, [], length, map, not, string_bytes, IfOk, OnOk, IfErr};
+ghost use Rattle.std.specs.Prelude.{◌≡◌, ◌==◌, ◌<◌, ◌++◌, ◌∷◌, [], codes, length, map, not, string_bytes, IfOk, OnOk, IfErr};
 ghost use Rattle.rows.specs.Judging.{plain};
 ghost use Rattle.rows.specs.Found.{tells, verdict_rest};
 ghost use Rattle.grids.specs.Shown.{shown_of};
 ghost use Rattle.grids.specs.CsvFields.{headings_of};
 ghost use Rattle.brackets.specs.Counting.{gap};
 ghost use Rattle.views.specs.Cells.{counted_texts, slack_of};
-ghost use Rattle.views.specs.Counted.{filed_of};
+ghost use Rattle.bounds.specs.Families.{family_word};
 ghost use Rattle.views.specs.Printed.{IsTableText, count_columns, first_told, head_text, counts_told_at};
 ghost use Rattle.views.specs.Ranked.{shown_rows};
 ghost use Rattle.views.specs.Troubles.{Fails, Writes, of_nothing};
@@ -16,30 +16,13 @@ use crate::leaf_cells::{cell, number_cell, push_numbers, rest_cell};
 use crate::outputs::write_out;
 use crate::troubles::Trouble;
 use crate::utilisation::Utilisation;
-use bounds::Bound;
+use bounds::Family;
 use brackets::Counts;
 use filings::Filing;
 use grids::{Cell, Grid, aligned};
 use rows::{Finding, Row, count_met};
 use std::alloc::{AllocError, Global};
 use std::io::Write;
-
-// The columns of a table that was counted twice.
-const COLUMNS: [&str; 13] = [
-    "rank",
-    "name",
-    "C",
-    "D",
-    "T",
-    "J",
-    "exact rest",
-    "response",
-    "slack",
-    "linear rest",
-    "gap",
-    "exact points",
-    "linear points",
-];
 
 impl Counted {
     /// Writes the table with both counts side by side, how much of the processor it utilises, and how
@@ -62,25 +45,26 @@ impl Counted {
         let table = self.table_of_counts(alloc)?;
         let mut text = self.head(alloc)?.into_bytes();
         text.extend_from_slice(&aligned(alloc, &table)?)?;
-        text.extend_from_slice(foot(alloc, &self.filing)?.as_bytes())?;
+        text.extend_from_slice(foot(alloc, self.exact(), self.bounded())?.as_bytes())?;
         Ok(text)
     }
 
-    // The line above the table: the frame and the accuracy.
+    // The line above the table: the frame and the bound.
     fn head(&self, alloc: Global) -> Result<String, AllocError>
         ensures { IfOk result (λ text. string_bytes text ≡ head_text self.now) }
     {
-        let (frame, accuracy) = (ticks(&self.filing), self.filing.tail().accuracy());
-        format!(in alloc; "frame {frame}, linear tail of accuracy {accuracy}\n")
+        let (frame, bound) = (ticks(self.bounded()), self.bounded().bound());
+        format!(in alloc; "frame {frame}, {bound}\n")
     }
 
     // The rows with both counts, as cells.
     fn table_of_counts(&self, alloc: Global) -> Result<Grid, AllocError>
-        ensures headings { IfOk result (λ grid. headings_of grid.headings.items ≡ count_columns) }
-        ensures rows { IfOk result (λ grid. shown_rows grid.rows.items ≡ first_told (length (filed_of self.now).rows) self.now) }
+        ensures headings { IfOk result (λ grid. headings_of grid.headings.items ≡ count_columns self.now.filed.bound.0) }
+        ensures rows { IfOk result (λ grid. shown_rows grid.rows.items ≡ first_told (length self.now.filed.rows) self.now) }
     {
-        let mut grid = Grid::new(alloc, &COLUMNS)?;
-        for i in 0..self.filing.rows().len() {
+        let (family, _) = self.bounded().bound().plain();
+        let mut grid = grid_of(alloc, family)?;
+        for i in 0..self.bounded().rows().len() {
             grid.push(self.row_at(alloc, i)?)?;
         }
         Ok(grid)
@@ -88,23 +72,69 @@ impl Counted {
 
     // The row at a place, counted from 0, with both counts.
     fn row_at(&self, alloc: Global, i: usize) -> Result<Vec<Cell>, AllocError>
-        requires { i < length (filed_of self.now).rows }
+        requires { i < length self.now.filed.rows }
         ensures { IfOk result (λ cells. map shown_of cells.items ≡ counts_told_at i self.now) }
     {
         let (rows, exact, bounded) = (
-            self.filing.rows(),
-            self.filing.exact(),
-            self.filing.bounded(),
+            self.bounded().rows(),
+            self.exact().findings(),
+            self.bounded().findings(),
         );
         let rank = i + 1;
         counted_row(
             alloc,
             rank,
-            self.table.name(rank),
+            self.task_table().name(rank),
             &rows[i],
             &exact[i],
             &bounded[i],
         )
+    }
+}
+
+// A table without rows under the columns of a count by a bound of a kind.
+fn grid_of(alloc: Global, family: Family) -> Result<Grid, AllocError>
+    ensures headings { IfOk result (λ grid. headings_of grid.headings.items ≡ count_columns family) }
+    ensures rows { IfOk result (λ grid. grid.rows.items ≡ []) }
+{
+    let (rest, points) = (rest_heading(family), points_heading(family));
+    Grid::new(
+        alloc,
+        &[
+            "rank",
+            "name",
+            "C",
+            "D",
+            "T",
+            "J",
+            "exact rest",
+            "response",
+            "slack",
+            rest,
+            "gap",
+            "exact points",
+            points,
+        ],
+    )
+}
+
+// What the column of first rests by a bound of a kind is called.
+fn rest_heading(family: Family) -> &'static str
+    ensures { result.now ≡ family_word family ++ codes " rest" }
+{
+    match family {
+        Family::ExactSteps => "exact rest",
+        Family::LinearTail => "linear rest",
+    }
+}
+
+// What the column of points tested by a bound of a kind is called.
+fn points_heading(family: Family) -> &'static str
+    ensures { result.now ≡ family_word family ++ codes " points" }
+{
+    match family {
+        Family::ExactSteps => "exact points",
+        Family::LinearTail => "linear points",
     }
 }
 
@@ -162,11 +192,13 @@ fn gap(exact: &Finding, bounded: &Finding) -> Option<u64>
 }
 
 // What stands below the table: how much of the processor it utilises, and how many rows meet by each count.
-fn foot(alloc: Global, filing: &Filing) -> Result<String, AllocError> {
-    let utilisation = Utilisation::of(ticks(filing), filing.rows());
-    let rows = filing.rows().len();
-    let (exact, bounded) = (count_met(filing.exact()), count_met(filing.bounded()));
+fn foot(alloc: Global, exact: &Filing, bounded: &Filing) -> Result<String, AllocError> {
+    let utilisation = Utilisation::of(ticks(bounded), bounded.rows());
+    let rows = bounded.rows().len();
+    let (family, _) = bounded.bound().plain();
+    let name = family.name();
+    let (exact, bounded) = (count_met(exact.findings()), count_met(bounded.findings()));
     format!(in alloc;
-        "utilisation {utilisation}\n{exact} of {rows} rows meet in exact steps, {bounded} of {rows} by the linear tail\n"
+        "utilisation {utilisation}\n{exact} of {rows} rows meet in exact steps, {bounded} of {rows} by the {name}\n"
     )
 }

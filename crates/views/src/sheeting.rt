@@ -3,37 +3,34 @@ ghost use Rattle.std.specs.Prelude.{◌≤◌, length, take, IfOk, OnOk, IfErr};
 ghost use Rattle.views.specs.Sheeted.{IsSheetFor, IsSheetOf};
 ghost use Rattle.views.specs.Troubles.{Fails, TellsFirst, Writes, of_table};
 
-use crate::counted::trouble;
+use crate::counted::{Counting, trouble};
 use crate::outputs::write_out;
 use crate::troubles::Trouble;
 use filings::write_sheet;
-use rows::FrameNumbers;
 use sheets::MOST_SHEET;
 use std::alloc::Global;
 use std::io::{Read, Write};
 use task_tables::{TaskTable, read};
 
 /// Reads a task table and writes its sheet, for the program `survey` (docs/FORMAT.md, Sheets): on the
-/// frame that is named, or the least common multiple of the periods; by the linear tail of the accuracy
-/// that is named, or in exact steps.
+/// frame that is named, or the least common multiple of the periods, and by the bound that is named.
 ///
 /// Refused as `count_table` refuses; nothing is written then.
 pub fn sheet<R: Read, W: Write>(
     alloc: Global,
     reader: &mut R,
-    frame: Option<FrameNumbers>,
-    accuracy: Option<u32>,
+    how: Counting,
     writer: &mut W,
 ) -> Result<(), Trouble>
-    ensures written { OnOk result (Writes (IsSheetFor frame accuracy (R.remaining reader.old))
+    ensures written { OnOk result (Writes (IsSheetFor how.frame (how.family, how.accuracy) (R.remaining reader.old))
         (W.contents writer.old) (W.contents writer.new)) }
-    ensures failed { IfErr result (λ t. Fails (IsSheetFor frame accuracy (R.remaining reader.old))
-        (of_table (R.remaining reader.old) frame accuracy)
+    ensures failed { IfErr result (λ t. Fails (IsSheetFor how.frame (how.family, how.accuracy) (R.remaining reader.old))
+        (of_table (R.remaining reader.old) how.frame (how.family, how.accuracy))
         (W.contents writer.old) (W.contents writer.new) t) }
 {
     let mut buffer = [0; MOST_SHEET];
     match read(alloc, reader) {
-        Ok(table) => match put_sheet(alloc, &table, frame, accuracy, &mut buffer) {
+        Ok(table) => match put_sheet(alloc, &table, how, &mut buffer) {
             Ok(length) => write_out(writer, &buffer[..length]),
             Err(trouble) => Err(trouble),
         },
@@ -45,16 +42,15 @@ pub fn sheet<R: Read, W: Write>(
 fn put_sheet(
     alloc: Global,
     table: &TaskTable,
-    frame: Option<FrameNumbers>,
-    accuracy: Option<u32>,
+    how: Counting,
     buffer: &mut [u8; MOST_SHEET],
 ) -> Result<usize, Trouble>
     ensures within { IfOk result (λ n. n ≤ length buffer.new) }
-    ensures sheet { IfOk result (λ n. IsSheetOf frame accuracy table.now (take n buffer.new)) }
-    ensures refused { IfErr result (λ t. TellsFirst frame accuracy table.now t) }
+    ensures sheet { IfOk result (λ n. IsSheetOf how.frame (how.family, how.accuracy) table.now (take n buffer.new)) }
+    ensures refused { IfErr result (λ t. TellsFirst how.frame (how.family, how.accuracy) table.now t) }
 {
-    match write_sheet(frame, accuracy, table.numbers(), buffer) {
+    match write_sheet(how.frame, how.family, how.accuracy, table.numbers(), buffer) {
         Ok(length) => Ok(length),
-        Err(fault) => Err(trouble(alloc, table, frame, fault)),
+        Err(fault) => Err(trouble(alloc, table, how, fault)),
     }
 }

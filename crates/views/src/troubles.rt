@@ -4,6 +4,7 @@ ghost use Rattle.views.specs.declared.troubles.Trouble.TheVariants.{Memory};
 
 use crate::damage::Damage;
 use crate::differences::Difference;
+use bounds::{FINEST, Family};
 use rows::HORIZON;
 use std::alloc::AllocError;
 use std::error::Error;
@@ -21,8 +22,8 @@ pub enum Trouble {
     Frame,
     /// No frame was named, and the periods have no common multiple up to the horizon: 1.
     NoFrame,
-    /// The accuracy is none: 3.
-    Accuracy,
+    /// The accuracy is none of a bound of the kind: 3.
+    Accuracy(Family),
     /// There is no row of the rank to be drawn among so many: 10.
     Rank(usize),
     /// Bytes are no leaf.
@@ -50,9 +51,7 @@ impl fmt::Display for Trouble {
                 f,
                 "refused 1 bad frame: the periods have no common multiple up to {HORIZON}"
             ),
-            Trouble::Accuracy => {
-                f.write_str("refused 3 bad accuracy: expected --linear from 1 to 64")
-            }
+            Trouble::Accuracy(family) => write_accuracy(f, *family),
             Trouble::Rank(0) => f.write_str("refused 10 no rank: the table has no row"),
             Trouble::Rank(rows) => {
                 write!(f, "refused 10 no rank: expected --rank from 1 to {rows}")
@@ -63,6 +62,19 @@ impl fmt::Display for Trouble {
             Trouble::Output(error) => write!(f, "output failed: {error}"),
             Trouble::Memory(error) => write!(f, "{error}"),
         }
+    }
+}
+
+// Tells that an accuracy is none, by the word by which a command line names bounds of the kind.
+fn write_accuracy<W: fmt::Write>(f: &mut fmt::Formatter<W>, family: Family) -> fmt::Result {
+    let word = family.word();
+    if family.has_accuracies() {
+        write!(
+            f,
+            "refused 3 bad accuracy: expected --{word} from 1 to {FINEST}"
+        )
+    } else {
+        f.write_str("refused 3 bad accuracy: expected none")
     }
 }
 

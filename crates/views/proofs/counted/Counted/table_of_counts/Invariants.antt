@@ -6,4 +6,7 @@ use Rattle.views.proofs.counted.Counted.table_of_counts.Given as goal
 
 -- the rows seen are told, under the headings
 abbrev pub invariant-loop-i : goal.invariant-loop-i
-invariant-loop-i l = record { headings : headings_of l.grid.headings.items ≡ count_columns; rows : shown_rows l.grid.rows.items ≡ first_told l.i l.self }
+invariant-loop-i l = record {
+  headings : headings_of l.grid.headings.items ≡ count_columns l.self.filed.bound.0;
+  rows : shown_rows l.grid.rows.items ≡ first_told l.i l.self;
+}
