@@ -105,10 +105,11 @@ impl<'a> Leaf<'a> {
         self.row(rank).zip(self.finding(rank))
     }
 
-    /// The rows in rank order, each with the finding about it: as many as there are rows
-    /// (docs/FORMAT.md, Entries).
+    /// The rows in rank order, each with the finding about it: as many as there are rows, from 0 to
+    /// 32 (docs/FORMAT.md, Entries).
     pub fn rows_with_findings(&self) -> RowsWithFindings<'a>
-        ensures { (c : Contents) → Holds self.now c → still_told result ≡ told_of c }
+        ensures told { (c : Contents) → Holds self.now c → still_told result ≡ told_of c }
+        ensures few { length (still_told result) ≤ most_rows }
     {
         RowsWithFindings {
             leaf: *self,

@@ -1,28 +1,44 @@
--- Rows of two leaves told beside each other, one after the other.
-use Rattle.std.proofs.Common.{◌≡◌, ℕ, suc, ◌+◌, List, [], ◌∷◌, ◌++◌, map, Option, sym, ap, ap₂, ◌∙◌, append_assoc, arith}
-use Rattle.std.specs.Prelude.{Vec}
-use Rattle.std.specs.Option.{option_map}
-use Rattle.std.specs.declared.alloc.Global.{Global}
-use Rattle.std.proofs.lemmas.List.{map-append}
+-- Rows of two leaves told beside each other.
+use Rattle.std.proofs.Common.{◌≡◌, ℕ, ◌+◌, List, map, None, Option}
+use Rattle.std.specs.List.{zip}
+use Rattle.std.specs.Iterator.{Yields, YieldsFirstBy}
+use Rattle.std.specs.Iterator.Adapters.{enumerate_count, enumerate_source, enumerate_steps}
+use Rattle.std.specs.Iterator.Adapters.{zip_first, zip_second, zip_steps}
+use Rattle.std.specs.declared.iter.Enumerate.{Enumerate}
+use Rattle.std.specs.declared.iter.Zip.{Zip}
+use Rattle.std.proofs.lemmas.Iterator.{YieldsList-from_zip}
+use Rattle.std.proofs.lemmas.Iterator.Consumers.{YieldsList-from_first}
 use Rattle.rows.specs.declared.tasks.Row.{Row}
-use Rattle.rows.specs.Judging.{plain}
-use Rattle.rows.specs.Lists.{at_rank}
 use Rattle.rows.specs.declared.verdicts.Finding.{Finding}
-use Rattle.rows.specs.Found.{tells}
 use Rattle.leaves.specs.Contents.{Contents}
-use Rattle.grids.specs.Cells.{Rows}
-use Rattle.grids.specs.declared.cells.Cell.{Cell}
-use Rattle.grids.specs.Shown.{shown_of}
-use Rattle.views.specs.Compared.{compared_at, compared_of, first_compared}
-use Rattle.views.specs.Ranked.{shown_rows}
+use Rattle.reading.specs.declared.held.RowsWithFindings.{RowsWithFindings}
+use Rattle.reading.specs.Told.{told, told_of, still_told}
+use Rattle.views.specs.Compared.{compared_rows, compared_texts}
+use Rattle.views.proofs.Told.{told_all}
 
--- one row more is told behind those before
-pub compared_next : (i : ℕ) (c d : Contents) (before : List (List (List ℕ))) (rows new : Rows) (cells : Vec Cell Global) (row : Option Row) (one other : Option Finding) → shown_rows rows ≡ before ++ first_compared i c d → map shown_of cells.items ≡ compared_of (i + 1) (option_map plain row) (option_map tells one) (option_map tells other) → option_map plain row ≡ option_map plain (at_rank (i + 1) c.rows) → option_map tells one ≡ option_map tells (at_rank (i + 1) c.findings) → option_map tells other ≡ option_map tells (at_rank (i + 1) d.findings) → new ≡ rows ++ cells ∷ [] → shown_rows new ≡ before ++ first_compared (i + 1) c d
-compared_next i c d before rows new cells row one other told cells_told row_is one_is other_is grown =
-    let up : i + 1 ≡ suc i = omega arith in
-    let at : map shown_of cells.items ≡ compared_at (i + 1) c d = cells_told ∙ ap (λ n. compared_of (i + 1) n (option_map tells one) (option_map tells other)) row_is ∙ ap₂ (λ f g. compared_of (i + 1) (option_map plain (at_rank (i + 1) c.rows)) f g) one_is other_is in
-    ap shown_rows grown
-    ∙ map-append (λ r. map shown_of r.items) rows (cells ∷ [])
-    ∙ ap₂ (λ xs x. xs ++ x ∷ []) told at
-    ∙ append_assoc before (first_compared i c d) _
-    ∙ ap (λ m. before ++ first_compared m c d) (sym up)
+-- a row with its finding
+abbrev One : Type 0
+One = Row × Finding
+
+-- two leaves gone through side by side, and what comes next
+abbrev pub Both : Type 0
+Both = Enumerate (Zip RowsWithFindings RowsWithFindings)
+
+abbrev pub BothGive : Both → Option (ℕ × (One × One)) → Both → Type 0
+BothGive = enumerate_steps (zip_steps (YieldsFirstBy told still_told) (YieldsFirstBy told still_told))
+
+-- what is told of two rows with their findings that came at a place
+abbrev pub compared_item : ℕ × (One × One) → List (List ℕ)
+compared_item e = compared_texts (e.0 + 1) (told e.1.0).0 (told e.1.0).1 (told e.1.1).1
+
+-- where nothing more comes, all rows were told
+pub leaves_told : (c d : Contents) (from to last : Both) (seen : List (ℕ × (One × One))) (r : Option (ℕ × (One × One)))
+    → still_told (zip_first (enumerate_source from)) ≡ told_of c
+    → still_told (zip_second (enumerate_source from)) ≡ told_of d
+    → enumerate_count from ≡ 0 → Yields BothGive from seen to → r ≡ None → BothGive to r last
+    → map compared_item seen ≡ compared_rows c d
+leaves_told c d from to last seen r one two begins yielded none ends =
+    let first = YieldsList-from_first told still_told (told_of c) one in
+    let second = YieldsList-from_first told still_told (told_of d) two in
+    told_all (λ rank e. compared_texts rank e.0.0 e.0.1 e.1.1) (zip (told_of c) (told_of d)) from to last seen r
+    (YieldsList-from_zip first second) begins yielded none ends

@@ -1,11 +1,10 @@
 -- Two leaves of one table beside each other, as text.
-use Rattle.std.specs.Prelude.{◌≡◌, ℕ, zero, suc, ◌+◌, ◌-◌, Bool, true, false, List, [], ◌∷◌, ◌++◌, length, Some, None, Option, codes, decimal, nat_le, if◌then◌else◌}
-use Rattle.std.specs.Option.{option_map}
+use Rattle.std.specs.Prelude.{◌≡◌, ℕ, ◌-◌, Bool, true, false, List, [], ◌∷◌, ◌++◌, length, map, Some, None, Option, codes, decimal, nat_le, if◌then◌else◌}
+use Rattle.std.specs.List.{enumerate_from, zip}
 use Rattle.rows.specs.declared.tasks.Numbers.{Numbers}
-use Rattle.rows.specs.Judging.{plain}
-use Rattle.rows.specs.Lists.{at_rank}
-use Rattle.rows.specs.Found.{Found, tells}
+use Rattle.rows.specs.Found.{Found}
 use Rattle.leaves.specs.Contents.{Contents}
+use Rattle.reading.specs.Told.{told_of}
 use Rattle.grids.specs.Aligned.{aligned_text}
 use Rattle.grids.specs.Cells.{Headings, Rows}
 use Rattle.grids.specs.Shown.{dash, shown_text}
@@ -40,22 +39,11 @@ compared_texts rank n one other =
     ∷ decimal one.points ∷ decimal other.points
     ∷ (if do_part one.rest other.rest then codes "part" else codes "same") ∷ [])
 
--- the texts of a compared row, where there are a row and both findings
-abbrev pub compared_of : ℕ → Option Numbers → Option Found → Option Found → List (List ℕ)
-compared_of rank None one other = []
-compared_of rank (Some n) None other = []
-compared_of rank (Some n) (Some one) None = []
-compared_of rank (Some n) (Some one) (Some other) = compared_texts rank n one other
-
--- what is told of a rank
-abbrev pub compared_at : ℕ → Contents → Contents → List (List ℕ)
-compared_at rank c d =
-    compared_of rank (option_map plain (at_rank rank c.rows)) (option_map tells (at_rank rank c.findings)) (option_map tells (at_rank rank d.findings))
-
--- what is told of the first ranks, in order
-abbrev pub first_compared : ℕ → Contents → Contents → List (List (List ℕ))
-first_compared zero c d = []
-first_compared (suc i) c d = first_compared i c d ++ compared_at (i + 1) c d ∷ []
+-- what is told of the rows of two leaves of one table: of each row by its rank, with what each leaf found of it; the first
+-- has rank 1
+abbrev pub compared_rows : Contents → Contents → List (List (List ℕ))
+compared_rows c d =
+    map (λ e. compared_texts e.0 e.1.0.0 e.1.0.1 e.1.1.1) (enumerate_from 1 (zip (told_of c) (told_of d)))
 
 -- the line of a leaf: a mark, its name as it is seen, and its bound
 abbrev pub named_line : List ℕ → List ℕ → Contents → List ℕ
@@ -82,7 +70,7 @@ pub record IsComparison (a b : List ℕ) (c d : Contents) (text : List ℕ) : Ty
   pub rows : Rows
   pub foot : List ℕ
   pub columns : headings_of headings ≡ compared_columns
-  pub told : shown_rows rows ≡ first_compared (length c.rows) c d
+  pub told : shown_rows rows ≡ compared_rows c d
   pub parts : text ≡ compared_head a b c d ++ (aligned_text headings rows ++ foot)
 
 -- two leaves are of one table, and a text sets them beside each other

@@ -1,13 +1,12 @@
 // Two leaves of one table beside each other.
-ghost use Rattle.std.specs.Prelude.{◌≡◌, ◌++◌, length, map, codes, string_bytes, Some, IfOk, OnOk, IfErr, if◌then◌else◌};
-ghost use Rattle.std.specs.Option.{option_map};
+ghost use Rattle.std.specs.Prelude.{◌≡◌, ◌++◌, map, codes, string_bytes, Some, IfOk, OnOk, IfErr, if◌then◌else◌};
 ghost use Rattle.rows.specs.Judging.{plain};
 ghost use Rattle.rows.specs.Found.{tells, verdict_rest};
 ghost use Rattle.leaves.specs.Contents.{Contents};
 ghost use Rattle.reading.specs.Leaves.{Holds};
 ghost use Rattle.grids.specs.Shown.{shown_of};
 ghost use Rattle.grids.specs.CsvFields.{headings_of};
-ghost use Rattle.views.specs.Compared.{AreCompared, IsComparison, IsComparisonOf, compared_columns, compared_head, compared_of, compared_texts, do_part, first_compared, frame_line, later_text, named_line};
+ghost use Rattle.views.specs.Compared.{AreCompared, IsComparison, IsComparisonOf, compared_columns, compared_head, compared_rows, compared_texts, do_part, frame_line, later_text, named_line};
 ghost use Rattle.views.specs.Leaves.{name_among};
 ghost use Rattle.views.specs.Ranked.{shown_rows};
 ghost use Rattle.views.specs.Troubles.{Fails, IsTroubleOf, TellsDamage, TellsDifference, Writes, of_leaves};
@@ -194,7 +193,7 @@ fn frame_line(alloc: Global, leaf: &Leaf<'_>) -> Result<String, AllocError>
 fn compared_table(alloc: Global, first: &Leaf<'_>, second: &Leaf<'_>) -> Result<Grid, AllocError>
     ensures columns { IfOk result (λ table. headings_of table.headings.items ≡ compared_columns) }
     ensures rows { IfOk result (λ table. (c d : Contents) → Holds first.now c → Holds second.now d →
-        shown_rows table.rows.items ≡ first_compared (length c.rows) c d) }
+        shown_rows table.rows.items ≡ compared_rows c d) }
 {
     let mut table = Grid::new(alloc, &COLUMNS)?;
     push_compared(alloc, &mut table.rows, first, second)?;
@@ -209,41 +208,17 @@ fn push_compared(
     second: &Leaf<'_>,
 ) -> Result<(), AllocError>
     ensures { OnOk result ((c d : Contents) → Holds first.now c → Holds second.now d →
-        shown_rows rows.new.items ≡ shown_rows rows.old.items ++ first_compared (length c.rows) c d) }
+        shown_rows rows.new.items ≡ shown_rows rows.old.items ++ compared_rows c d) }
 {
-    for i in 0..first.len() {
-        let rank = i + 1;
-        let (row, one, other) = (first.row(rank), first.finding(rank), second.finding(rank));
-        rows.push(compared_row(alloc, rank, row, one, other)?)?;
+    let pairs = first.rows_with_findings().zip(second.rows_with_findings());
+    for (i, ((row, one), (_, other))) in pairs.enumerate() {
+        rows.push(compared_row(alloc, i + 1, &row, &one, &other)?)?;
     }
     Ok(())
 }
 
-// A row of a rank with both findings, where there are all three.
-fn compared_row(
-    alloc: Global,
-    rank: usize,
-    row: Option<Row>,
-    one: Option<Finding>,
-    other: Option<Finding>,
-) -> Result<Vec<Cell>, AllocError>
-    ensures { IfOk result (λ cells. map shown_of cells.items
-        ≡ compared_of rank (option_map plain row) (option_map tells one) (option_map tells other)) }
-{
-    match row {
-        Some(row) => match one {
-            Some(one) => match other {
-                Some(other) => compared_cells(alloc, rank, &row, &one, &other),
-                None => Ok(Vec::new(alloc)),
-            },
-            None => Ok(Vec::new(alloc)),
-        },
-        None => Ok(Vec::new(alloc)),
-    }
-}
-
 // A row with both findings, as cells.
-fn compared_cells(
+fn compared_row(
     alloc: Global,
     rank: usize,
     row: &Row,
@@ -283,21 +258,13 @@ fn parted_ranks(
     second: &Leaf<'_>,
 ) -> Result<Vec<usize>, AllocError> {
     let mut ranks = Vec::new(alloc);
-    for i in 0..first.len() {
-        let rank = i + 1;
-        if parts_at(first, second, rank) {
-            ranks.push(rank)?;
+    let pairs = first.rows_with_findings().zip(second.rows_with_findings());
+    for (i, ((_, one), (_, other))) in pairs.enumerate() {
+        if part(one.verdict, other.verdict) {
+            ranks.push(i + 1)?;
         }
     }
     Ok(ranks)
-}
-
-// Whether the verdicts of two leaves part at a rank.
-fn parts_at(first: &Leaf<'_>, second: &Leaf<'_>, rank: usize) -> bool {
-    match (first.finding(rank), second.finding(rank)) {
-        (Some(one), Some(other)) => part(one.verdict, other.verdict),
-        _ => false,
-    }
 }
 
 // Whether a row meets by one of two verdicts and misses by the other.

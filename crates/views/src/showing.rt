@@ -7,7 +7,7 @@ ghost use Rattle.grids.specs.CsvFields.{headings_of};
 ghost use Rattle.views.specs.Added.{Adds, AddsHeld, GrowBy, GrowsRecords, GrowsText, IsCsvOf, IsDamageLine, IsShown, KeepsSetup, field_names, layout_of, shown_headings, shown_records, text_added};
 ghost use Rattle.views.specs.Cells.{damage_fields, leaf_texts, record_fields};
 ghost use Rattle.views.specs.Leaves.{HeldLeaf, IsLeaf};
-ghost use Rattle.views.specs.Ranked.{StandsAt, field_rows, leaf_records, shown_rows, told_rows};
+ghost use Rattle.views.specs.Ranked.{field_rows, leaf_records, shown_rows, told_rows};
 ghost use Rattle.views.specs.Texts.{IsLeafText, leaf_columns, leaf_head, parted};
 ghost use Rattle.views.specs.Troubles.{Fails, IsTroubleOf, Writes, of_leaf, of_nothing};
 
@@ -20,7 +20,6 @@ use crate::records::{FIELDS, damage_record, heading_record, row_record};
 use crate::troubles::Trouble;
 use grids::{Cell, Grid, aligned, to_csv, to_json};
 use reading::{Leaf, read};
-use rows::{Finding, Row};
 use std::alloc::{AllocError, Global};
 use std::io::{Read, Write};
 use task_tables::Printable;
@@ -242,10 +241,8 @@ fn push_rows(alloc: Global, rows: &mut Vec<Vec<Cell>>, leaf: &Leaf<'_>) -> Resul
     ensures { OnOk result ((c : Contents) → Holds leaf.now c →
         shown_rows rows.new.items ≡ shown_rows rows.old.items ++ told_rows leaf_texts c) }
 {
-    for i in 0..leaf.len() {
-        if let Some((row, finding)) = row_at(leaf, i + 1) {
-            rows.push(leaf_row(alloc, i + 1, &row, &finding)?)?;
-        }
+    for (i, (row, finding)) in leaf.rows_with_findings().enumerate() {
+        rows.push(leaf_row(alloc, i + 1, &row, &finding)?)?;
     }
     Ok(())
 }
@@ -261,17 +258,8 @@ fn push_records(
         ≡ field_rows records.old.items ++ told_rows (record_fields name.now c.heading) c) }
 {
     let heading = leaf.heading();
-    for i in 0..leaf.len() {
-        if let Some((row, finding)) = row_at(leaf, i + 1) {
-            records.push(row_record(alloc, name, heading, i + 1, &row, &finding)?)?;
-        }
+    for (i, (row, finding)) in leaf.rows_with_findings().enumerate() {
+        records.push(row_record(alloc, name, heading, i + 1, &row, &finding)?)?;
     }
     Ok(())
-}
-
-// The row of a rank and its finding, if there are any.
-fn row_at(leaf: &Leaf<'_>, rank: usize) -> Option<(Row, Finding)>
-    ensures { (c : Contents) → Holds leaf.now c → StandsAt rank c result }
-{
-    Some((leaf.row(rank)?, leaf.finding(rank)?))
 }
