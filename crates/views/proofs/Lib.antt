@@ -5,7 +5,7 @@ mod ComparedRows
 mod Counts
 mod Failing
 mod Held
+mod Parted
 mod Puts
-mod Ranks
 mod Refused
 mod Told

@@ -41,15 +41,14 @@ ranks tell n [] = refl
 ranks tell n (x ∷ xs) = ap (λ ys. tell (n + 1) x ∷ ys) (ranks tell (n + 1) xs)
 
 -- where nothing more comes of a list, all of it was told by rank
-pub told_all : {S A B X : Type 0} {steps : S → Option A → S → Type 0} {v : A → B} (tell : ℕ → B → X) (all : List B)
-    → (from to last : Enumerate S) (seen : List (ℕ × A)) (r : Option (ℕ × A))
-    → YieldsList steps v (enumerate_source from) all → enumerate_count from ≡ 0
-    → Yields (enumerate_steps steps) from seen to → r ≡ None → enumerate_steps steps to r last
+pub told_all : {S A B X : Type 0} {steps : S → Option (ℕ × A) → S → Type 0}
+    → (tell : ℕ → B → X) (v : A → B) (all : List B) (from to last : S) (seen : List (ℕ × A)) (r : Option (ℕ × A))
+    → YieldsList steps (λ e. (e.0, v e.1)) from (enumerate_from 0 all)
+    → Yields steps from seen to → r ≡ None → steps to r last
     → map (λ e. tell (e.0 + 1) (v e.1)) seen ≡ map (λ e. tell e.0 e.1) (enumerate_from 1 all)
-told_all {v = v} tell all from to last seen r gives begins yielded none ends =
-    let same = YieldsList-end (YieldsList-from_enumerate gives begins) seen to yielded r last none ends in
+told_all tell v all from to last seen r gives yielded none ends =
     sym (map-map (λ e. tell (e.0 + 1) e.1) (λ e. (e.0, v e.1)) seen)
-    ∙ ap (map (λ e. tell (e.0 + 1) e.1)) same.0
+    ∙ ap (map (λ e. tell (e.0 + 1) e.1)) (YieldsList-end gives seen to yielded r last none ends).0
     ∙ ranks tell 0 all
 
 -- so all rows of a leaf were told
@@ -60,5 +59,6 @@ pub leaf_told : {X : Type 0} (tell : ℕ → Numbers → Found → X) (c : Conte
     → r ≡ None → enumerate_steps (YieldsFirstBy told still_told) to r last
     → map (told_item tell) seen ≡ told_rows tell c
 leaf_told tell c from to last seen r gives begins yielded none ends =
-    told_all (λ rank e. tell rank e.0 e.1) (told_of c) from to last seen r
-    (YieldsList-from_first told still_told (told_of c) gives) begins yielded none ends
+    let rows = YieldsList-from_first told still_told (told_of c) gives in
+    told_all (λ rank e. tell rank e.0 e.1) told (told_of c) from to last seen r
+    (YieldsList-from_enumerate rows begins) yielded none ends

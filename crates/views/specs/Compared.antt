@@ -1,5 +1,6 @@
 -- Two leaves of one table beside each other, as text.
-use Rattle.std.specs.Prelude.{◌≡◌, ℕ, ◌-◌, Bool, true, false, List, [], ◌∷◌, ◌++◌, length, map, Some, None, Option, codes, decimal, nat_le, if◌then◌else◌}
+use Rattle.std.specs.Prelude.{◌≡◌, ℕ, ◌-◌, Bool, true, false, List, [], ◌∷◌, ◌++◌}
+use Rattle.std.specs.Prelude.{length, map, Some, None, Option, codes, decimal, nat_le, if◌then◌else◌}
 use Rattle.std.specs.List.{enumerate_from, zip}
 use Rattle.rows.specs.declared.tasks.Numbers.{Numbers}
 use Rattle.rows.specs.Found.{Found}
@@ -43,7 +44,8 @@ compared_texts rank n one other =
 -- has rank 1
 abbrev pub compared_rows : Contents → Contents → List (List (List ℕ))
 compared_rows c d =
-    map (λ e. compared_texts e.0 e.1.0.0 e.1.0.1 e.1.1.1) (enumerate_from 1 (zip (told_of c) (told_of d)))
+    let pairs = zip (told_of c) (told_of d) in
+    map (λ e. compared_texts e.0 e.1.0.0 e.1.0.1 e.1.1.1) (enumerate_from 1 pairs)
 
 -- the line of a leaf: a mark, its name as it is seen, and its bound
 abbrev pub named_line : List ℕ → List ℕ → Contents → List ℕ

@@ -1,11 +1,9 @@
 -- What is read as leaves.
-use Rattle.std.specs.Prelude.{◌≡◌, ℕ, ◌+◌, ◌<◌, Bool, true, false, List, [], Option, map, slice_index_or}
+use Rattle.std.specs.Prelude.{◌≡◌, ℕ, Bool, true, false, List, [], Option, map, slice_index_or}
 use Rattle.std.specs.Borrow.{Bor}
-use Rattle.std.specs.Option.{option_map}
 use Rattle.rows.specs.declared.refusals.Refusal.{Refusal}
 use Rattle.rows.specs.Answers.{gives, refuses}
 use Rattle.rows.specs.Judging.{plain}
-use Rattle.rows.specs.Lists.{at_rank}
 use Rattle.leaves.specs.Contents.{Contents}
 use Rattle.reading.specs.Whole.{Fits}
 use Rattle.streams.specs.Held.{MayHold}
@@ -29,10 +27,6 @@ name_among names i = slice_index_or (map (λ name. name.now) names) i []
 pub record HaveOneTable (c d : Contents) : Type 0 where
   pub frame : c.heading.frame ≡ d.heading.frame
   pub rows : map plain c.rows ≡ map plain d.rows
-
--- two leaves have the same row at each rank up to one
-abbrev pub AreSameUpTo : ℕ → Contents → Contents → Type 0
-AreSameUpTo n c d = (k : ℕ) → k < n → option_map plain (at_rank (k + 1) c.rows) ≡ option_map plain (at_rank (k + 1) d.rows)
 
 -- what two readers held are leaves whose contents are related so
 pub record HeldBoth (P : Contents → Contents → Type 0) (first second : Option (List ℕ)) : Type 0 where

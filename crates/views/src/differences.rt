@@ -1,12 +1,10 @@
 // In what two leaves of different tables differ.
-ghost use Rattle.std.specs.Prelude.{◌≡◌, length, IfNone, IfSome};
-ghost use Rattle.std.specs.Option.{option_map};
+ghost use Rattle.std.specs.Prelude.{◌≡◌, length, map, IfNone, IfSome};
 ghost use Rattle.rows.specs.Judging.{plain};
-ghost use Rattle.rows.specs.Lists.{at_rank};
 ghost use Rattle.leaves.specs.Contents.{Contents};
 ghost use Rattle.reading.specs.Leaves.{Holds};
-ghost use Rattle.views.specs.Differences.{Differ, IsFirstParted};
-ghost use Rattle.views.specs.Leaves.{HaveOneTable, AreSameUpTo};
+ghost use Rattle.views.specs.Differences.{Differ};
+ghost use Rattle.views.specs.Leaves.{HaveOneTable};
 
 use reading::Leaf;
 use rows::Numbers;
@@ -20,8 +18,8 @@ pub enum Difference {
     Counts(usize, usize),
     Rows {
         rank: usize,
-        first: Option<Numbers>,
-        second: Option<Numbers>,
+        first: Numbers,
+        second: Numbers,
     },
 }
 
@@ -39,36 +37,28 @@ pub(crate) fn first_difference(first: &Leaf<'_>, second: &Leaf<'_>) -> Option<Di
     if first.len() != second.len() {
         return Some(Difference::Counts(first.len(), second.len()));
     }
-    match first_parted(first, second) {
-        Some(rank) => Some(Difference::Rows {
-            rank,
-            first: numbers_at(first, rank),
-            second: numbers_at(second, rank),
-        }),
-        None => None,
-    }
+    first_parted(first, second)
 }
 
-// The first rank of two leaves of one length at which their rows differ, if there is one.
-fn first_parted(first: &Leaf<'_>, second: &Leaf<'_>) -> Option<usize>
+// The rows of the first rank at which two leaves of one frame and as many rows differ, if there is one.
+fn first_parted(first: &Leaf<'_>, second: &Leaf<'_>) -> Option<Difference>
     ensures none { IfNone result ((c d : Contents) → Holds first.now c → Holds second.now d →
-        AreSameUpTo (length c.rows) c d) }
-    ensures first { IfSome result (λ rank. (c d : Contents) → Holds first.now c → Holds second.now d →
-        IsFirstParted rank c d) }
+        length c.rows ≡ length d.rows → map plain c.rows ≡ map plain d.rows) }
+    ensures first { IfSome result (λ difference. (c d : Contents) → Holds first.now c → Holds second.now d →
+        c.heading.frame ≡ d.heading.frame → length c.rows ≡ length d.rows → Differ difference c d) }
 {
-    for i in 0..first.len() {
-        if numbers_at(first, i + 1) != numbers_at(second, i + 1) {
-            return Some(i + 1);
+    let pairs = first.rows_with_findings().zip(second.rows_with_findings());
+    for (i, ((one, _), (other, _))) in pairs.enumerate() {
+        let (one, other) = (one.numbers(), other.numbers());
+        if one != other {
+            return Some(Difference::Rows {
+                rank: i + 1,
+                first: one,
+                second: other,
+            });
         }
     }
     None
-}
-
-// The numbers of the row of a rank, if there is one.
-fn numbers_at(leaf: &Leaf<'_>, rank: usize) -> Option<Numbers>
-    ensures { (c : Contents) → Holds leaf.now c → result ≡ option_map plain (at_rank rank c.rows) }
-{
-    leaf.row(rank).map(|row| row.numbers())
 }
 
 impl fmt::Display for Difference {
@@ -84,18 +74,15 @@ impl fmt::Display for Difference {
                 second,
             } => {
                 write!(f, "rank {rank} is ")?;
-                write_numbers(f, *first)?;
+                write_numbers(f, first)?;
                 f.write_str(" and ")?;
-                write_numbers(f, *second)
+                write_numbers(f, second)
             }
         }
     }
 }
 
 // The numbers of a row, with blanks between them.
-fn write_numbers<W: fmt::Write>(f: &mut fmt::Formatter<W>, row: Option<Numbers>) -> fmt::Result {
-    match row {
-        Some(n) => write!(f, "{} {} {} {}", n.work, n.deadline, n.period, n.jitter),
-        None => f.write_str("no row"),
-    }
+fn write_numbers<W: fmt::Write>(f: &mut fmt::Formatter<W>, n: &Numbers) -> fmt::Result {
+    write!(f, "{} {} {} {}", n.work, n.deadline, n.period, n.jitter)
 }

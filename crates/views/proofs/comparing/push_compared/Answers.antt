@@ -3,7 +3,7 @@ use Rattle.std.specs.Iterator.Adapters.{enumerate_count, enumerate_source, zip_f
 use Rattle.grids.specs.Shown.{shown_of}
 use Rattle.reading.specs.Told.{told_of, still_told}
 use Rattle.views.specs.Ranked.{shown_rows}
-use Rattle.views.proofs.ComparedRows.{compared_item, leaves_told}
+use Rattle.views.proofs.ComparedRows.{both_give, compared_item, leaves_told}
 use Rattle.views.proofs.Told.{told_next}
 use Rattle.views.proofs.comparing.push_compared.Goals as goal
 
@@ -24,5 +24,5 @@ returns c = λ x d holds other.
     let begins : enumerate_count from ≡ 0 = search rules in
     c.loop-i.invariant
     ∙ ap (λ xs. shown_rows c.args.rows.now.items ++ xs)
-    (leaves_told x d from c.loop-i.i-iterator c.next.new.self c.loop-i.yielded c.next.result one two begins
-    c.loop-i.yielded_by c.in-None.is c.next.ensures.steps)
+    (leaves_told x d from c.loop-i.i-iterator c.next.new.self c.loop-i.yielded c.next.result
+    (both_give x d from one two begins) c.loop-i.yielded_by c.in-None.is c.next.ensures.steps)

@@ -1,8 +1,7 @@
-use Rattle.leaves.specs.Contents.{Contents}
-use Rattle.reading.specs.Leaves.{Holds}
-use Rattle.views.specs.Leaves.{AreSameUpTo}
+use Rattle.std.proofs.Common.{◌≡◌, map}
+use Rattle.views.proofs.Parted.{one_row, other_row}
 use Rattle.views.proofs.differences.first_parted.Given as goal
 
--- the rows are the same at each rank seen
+-- the rows that came were the same
 abbrev pub invariant-loop-i : goal.invariant-loop-i
-invariant-loop-i l = (c d : Contents) → Holds l.first c → Holds l.second d → AreSameUpTo l.i c d
+invariant-loop-i l = map one_row l.yielded ≡ map other_row l.yielded

@@ -7,4 +7,5 @@ use Rattle.views.proofs.showing.push_records.Given as goal
 -- the rows seen are told behind the records that were there
 abbrev pub invariant-loop-i : goal.invariant-loop-i
 invariant-loop-i l =
-    field_rows l.records.items ≡ field_rows l.initial.records.items ++ map (told_item (record_fields l.name l.heading)) l.yielded
+    let tell = told_item (record_fields l.name l.heading) in
+    field_rows l.records.items ≡ field_rows l.initial.records.items ++ map tell l.yielded
