@@ -66,12 +66,14 @@ named_checks n k = checks (family_of_number n)
     checks None = check true UnknownBound 0 ∷ []
     checks (Some f) = family_accuracy_checks f k
 
--- a bound as a person reads it: exact steps, or linear tail of accuracy 3
+-- a bound as a person reads it, by its kind and the accuracy: exact steps, or linear tail of accuracy 3
+abbrev pub family_shown : Family → ℕ → List ℕ
+family_shown f k =
+    if has_accuracies f then family_name f ++ (codes " of accuracy " ++ decimal k)
+    else family_name f
+
 abbrev pub shown_bound : Supplied → List ℕ
-shown_bound b =
-    if has_accuracies (supplied_plain b).0
-    then family_name (supplied_plain b).0 ++ (codes " of accuracy " ++ decimal (supplied_plain b).1)
-    else family_name (supplied_plain b).0
+shown_bound b = family_shown (supplied_plain b).0 (supplied_plain b).1
 
 -- and as a file is named for it: exact, or linear-3
 abbrev pub shown_short : Supplied → List ℕ

@@ -4,8 +4,10 @@ mod Compared
 mod ComparedRows
 mod Counts
 mod Failing
+mod Flaws
 mod Held
 mod Parted
 mod Puts
 mod Refused
+mod Responded
 mod Told

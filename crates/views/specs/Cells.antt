@@ -31,9 +31,13 @@ number_field number = option_map_or decimal number []
 abbrev pub response_of : Numbers → Found → Option ℕ
 response_of n f = option_map (λ rest. rest + n.jitter) f.rest
 
+-- what is left of a deadline behind a response, where there is one
+abbrev pub slack_left : ℕ → Option ℕ → Option ℕ
+slack_left deadline response = option_map (λ t. deadline - t) response
+
 -- the slack of a row that meets: the deadline less the response
 abbrev pub slack_of : Numbers → Found → Option ℕ
-slack_of n f = option_map (λ response. n.deadline - response) (response_of n f)
+slack_of n f = slack_left n.deadline (response_of n f)
 
 -- the four numbers of a row, as cells
 abbrev pub number_cells : Numbers → List Cell

@@ -4,6 +4,7 @@ pub mod Texts
 pub mod Counted
 pub mod Printed
 pub mod Sheeted
+pub mod Responded
 pub mod Leaves
 pub mod Differences
 pub mod Added

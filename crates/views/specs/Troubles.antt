@@ -13,6 +13,7 @@ use Rattle.leaves.specs.Contents.{Contents}
 use Rattle.reading.specs.Whole.{Fits}
 use Rattle.filings.specs.Checks.{filing_checks}
 use Rattle.task_tables.specs.declared.tables.TaskTable.{TaskTable}
+use Rattle.task_tables.specs.Explained.{IsExplained}
 use Rattle.task_tables.specs.Misreads.{refusal_told}
 use Rattle.task_tables.specs.Refusals.{ReadsNone, is_misread}
 use Rattle.streams.specs.Held.{MayHold}
@@ -22,6 +23,7 @@ use Rattle.views.specs.declared.troubles.Trouble.{Trouble}
 use Rattle.views.specs.declared.troubles.Trouble.TheVariants as trouble
 use Rattle.views.specs.Differences.{Differ}
 use Rattle.views.specs.Leaves.{HeldBoth, HeldLeaf}
+use Rattle.views.specs.Responded.{IsFlawFor, IsFlawOf}
 
 -- a refusal is about a row: neither about the frame nor about the accuracy
 abbrev pub is_of_row : Refusal → Bool
@@ -38,6 +40,18 @@ TroubleTells frame family refusal (trouble.Accuracy named) = (named ≡ family) 
 TroubleTells frame family refusal (trouble.Row m) = (refusal_told m ≡ Some refusal) × (is_of_row refusal ≡ true)
 TroubleTells frame family refusal (trouble.Memory e) = Unit {0}
 TroubleTells frame family refusal _ = ⊥
+
+-- a trouble tells a fault of a table: at the number of a task that it is about, where memory does not run out
+abbrev pub TellsFault : TaskTable → Fault → Trouble → Type 0
+TellsFault table fault (trouble.Row m) = IsExplained table fault m
+TellsFault table fault (trouble.Memory e) = Unit {0}
+TellsFault table fault _ = ⊥
+
+-- the numbers of a table are no rows, and a trouble tells the first of their flaws, where memory does not run out
+abbrev pub TellsFlaw : TaskTable → Trouble → Type 0
+TellsFlaw table (trouble.Row m) = IsFlawOf table m
+TellsFlaw table (trouble.Memory e) = Unit {0}
+TellsFlaw table _ = ⊥
 
 -- the numbers of a table are refused, on the frame and by the bound that are named, and the first of the refusals is
 -- told
@@ -81,23 +95,30 @@ TellsDifference c d (trouble.Memory e) = Unit {0}
 TellsDifference c d _ = ⊥
 
 -- what a view is of: a table that a reader holds, with the frame and the bound that are named; the row of a rank of
--- such a table; two leaves that readers hold, by their names; one leaf; or what was read before
+-- such a table; the response times of a table that a reader holds; two leaves that readers hold, by their names; one
+-- leaf; or what was read before
 pub data Subject : Type 0 where
   of_table : Option (List ℕ) → Option FrameNumbers → Family × ℕ → Subject
   of_row : ℕ → Option (List ℕ) → Option FrameNumbers → Family × ℕ → Subject
+  of_responses : Option (List ℕ) → Subject
   of_leaves : List ℕ → Option (List ℕ) → List ℕ → Option (List ℕ) → Subject
   of_leaf : Subject
   of_nothing : Subject
 
 -- what a trouble means, by what the view is of. A table cannot be read: then its text is none, where that is what is
--- told. Its numbers are refused. It has no row of the rank. A leaf is damaged, the first or else the second. Two leaves
--- differ. An input fails, other than by being interrupted. Of memory nothing is said, and no other trouble can be
+-- told. Its numbers are refused, or are no rows. It has no row of the rank. A leaf is damaged, the first or else the
+-- second. Two leaves differ. An input fails, other than by being interrupted. Of memory nothing is said, and no other
+-- trouble can be
 abbrev pub IsTroubleOf : Subject → Trouble → Type 0
 IsTroubleOf (of_table held h b) (trouble.Table e) = is_misread e ≡ true → ReadsNone held
 IsTroubleOf (of_table held h b) t = TellsRefusal held h b t
 IsTroubleOf (of_row rank held h b) (trouble.Table e) = is_misread e ≡ true → ReadsNone held
 IsTroubleOf (of_row rank held h b) (trouble.Rank rows) = LacksRank held h b rank rows
 IsTroubleOf (of_row rank held h b) t = TellsRefusal held h b t
+IsTroubleOf (of_responses held) (trouble.Table e) = is_misread e ≡ true → ReadsNone held
+IsTroubleOf (of_responses held) (trouble.Row m) = IsFlawFor held m
+IsTroubleOf (of_responses held) (trouble.Memory e) = Unit {0}
+IsTroubleOf (of_responses held) _ = ⊥
 IsTroubleOf (of_leaves a one b other) (trouble.Damaged d) = IsDamaged a one d ⊎ (HeldLeaf one true × IsDamaged b other d)
 IsTroubleOf (of_leaves a one b other) (trouble.Different d) = HeldBoth (Differ d) one other
 IsTroubleOf (of_leaves a one b other) (trouble.Input e) = error_kind e ≢ Interrupted

@@ -4,6 +4,7 @@ ghost use Rattle.task_tables.specs.Tables.{ReadsAll};
 ghost use Rattle.views.specs.Counted.{IsCountOf, IsLeafOf};
 ghost use Rattle.views.specs.Troubles.{IsTroubleOf, TroubleTells, TellsFirst, of_table};
 
+use crate::explained::explained;
 use crate::troubles::Trouble;
 use bounds::{Family, Supplied};
 use filings::{Filing, Progress, count, count_by};
@@ -104,10 +105,7 @@ pub(crate) fn trouble(alloc: Global, table: &TaskTable, how: Counting, fault: Fa
         (Refusal::BadFrame, Some(_)) => Trouble::Frame,
         (Refusal::BadFrame, None) => Trouble::NoFrame,
         (Refusal::BadAccuracy, _) => Trouble::Accuracy(how.family),
-        _ => match table.explain(alloc, fault) {
-            Ok(misread) => Trouble::Row(misread),
-            Err(error) => Trouble::Memory(error),
-        },
+        _ => explained(alloc, table, fault),
     }
 }
 

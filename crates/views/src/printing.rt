@@ -5,14 +5,14 @@ ghost use Rattle.rows.specs.Found.{tells, verdict_rest};
 ghost use Rattle.grids.specs.Shown.{shown_of};
 ghost use Rattle.grids.specs.CsvFields.{headings_of};
 ghost use Rattle.brackets.specs.Counting.{gap};
-ghost use Rattle.views.specs.Cells.{counted_texts, slack_of};
 ghost use Rattle.bounds.specs.Families.{family_word};
+ghost use Rattle.views.specs.Cells.{counted_texts};
 ghost use Rattle.views.specs.Printed.{IsTableText, count_columns, first_told, head_text, counts_told_at};
 ghost use Rattle.views.specs.Ranked.{shown_rows};
 ghost use Rattle.views.specs.Troubles.{Fails, Writes, of_nothing};
 
 use crate::counted::Counted;
-use crate::leaf_cells::{cell, number_cell, push_numbers, rest_cell};
+use crate::leaf_cells::{cell, number_cell, push_numbers, rest_cell, slack};
 use crate::outputs::write_out;
 use crate::troubles::Trouble;
 use crate::utilisation::Utilisation;
@@ -154,23 +154,16 @@ fn counted_row(
     let mut cells = Vec::new(alloc);
     cells.push(Cell::Number(rank as u64))?;
     cells.push(Cell::of_text(alloc, name)?)?;
-    push_numbers(&mut cells, row)?;
+    push_numbers(&mut cells, row.numbers())?;
     cells.push(rest_cell(alloc, exact.verdict)?)?;
-    cells.push(number_cell(exact.response_bound(row)))?;
-    cells.push(number_cell(slack(row, exact)))?;
+    let response = exact.response_bound(row);
+    cells.push(number_cell(response))?;
+    cells.push(number_cell(slack(row.deadline, response)))?;
     cells.push(rest_cell(alloc, bounded.verdict)?)?;
     cells.push(number_cell(gap(exact, bounded)))?;
     cells.push(cell(exact.points))?;
     cells.push(cell(bounded.points))?;
     Ok(cells)
-}
-
-// The deadline less the response, of a row that meets.
-fn slack(row: &Row, finding: &Finding) -> Option<u64>
-    ensures { result ≡ slack_of (plain row.now) (tells finding.now) }
-{
-    let response = finding.response_bound(row)?;
-    Some(u64::from(row.deadline).saturating_sub(response))
 }
 
 // The length of the frame, in ticks.
