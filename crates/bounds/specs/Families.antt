@@ -72,6 +72,7 @@ family_shown f k =
     if has_accuracies f then family_name f ++ (codes " of accuracy " ++ decimal k)
     else family_name f
 
+-- the same of a bound
 abbrev pub shown_bound : Supplied → List ℕ
 shown_bound b = family_shown (supplied_plain b).0 (supplied_plain b).1
 

@@ -1,5 +1,6 @@
 -- The least common multiple of the periods of a table, period by period.
-use Rattle.std.proofs.Common.{◌≡◌, ℕ, ◌+◌, ◌%◌, ◌<◌, ◌≤◌, Bool, true, false, eqb, leb, List, [], ◌∷◌, length, get_or, take, Some, None, refl, sym, ◌∙◌, subst, arith}
+use Rattle.std.proofs.Common.{◌≡◌, ℕ, ◌+◌, ◌%◌, ◌<◌, ◌≤◌, Bool, true, false, eqb, leb, List, [], ◌∷◌, length, get_or}
+use Rattle.std.proofs.Common.{take, Some, None, refl, sym, ◌∙◌, subst, arith}
 use Rattle.std.proofs.lemmas.Bool.{and_from, and_parts, leb-true, eq-eqb, eqb-true}
 use Rattle.std.proofs.lemmas.List.{take_all}
 use Rattle.std.proofs.lemmas.List.Folds.{list_all_more}
@@ -22,7 +23,8 @@ is_false : (b : Bool) → (b ≡ true → ⊥) → b ≡ false
 is_false true not_true = absurd (not_true refl)
 is_false false not_true = refl
 
-module _ (table : List Numbers) (i : ℕ) (d : Numbers) (within : i < length table) (h : ℕ) (before : IsLeastMultiple (take i table) h) where
+module _ (table : List Numbers) (i : ℕ) (d : Numbers) (within : i < length table) (h : ℕ)
+    (before : IsLeastMultiple (take i table) h) where
   abbrev period : ℕ
   period = (get_or table i d).period
 
@@ -36,7 +38,8 @@ module _ (table : List Numbers) (i : ℕ) (d : Numbers) (within : i < length tab
   pub joined_more : (l : ℕ) → IsJoined h period l → IsLeastMultiple (take (i + 1) table) l
   joined_more l joined = record {
     frame = joined.frame;
-    common = list_all_more (λ n. eqb (l % n.period) 0) table i d within ∙ and_from _ _ (kept (take i table) before.common) (eq-eqb (l % period) 0 joined.second);
+    common = list_all_more (λ n. eqb (l % n.period) 0) table i d within
+        ∙ and_from _ _ (kept (take i table) before.common) (eq-eqb (l % period) 0 joined.second);
     each = λ m all. let both = parts m all in joined.each m (before.each m both.0) both.1;
   }
     where
@@ -44,7 +47,9 @@ module _ (table : List Numbers) (i : ℕ) (d : Numbers) (within : i < length tab
       kept [] all = refl
       kept (n ∷ ns) all =
           let both = and_parts _ _ all in
-          let here : n.period ∣ l = dvd_trans n.period (dvd_of_mod-eq-zero n.period (eqb-true (h % n.period) 0 both.0)) (dvd_of_mod-eq-zero h joined.first) in
+          let here : n.period ∣ l =
+          dvd_trans n.period (dvd_of_mod-eq-zero n.period (eqb-true (h % n.period) 0 both.0))
+          (dvd_of_mod-eq-zero h joined.first) in
           and_from _ _ (eq-eqb (l % n.period) 0 (mod-eq-zero_of_dvd n.period here)) (kept ns both.1)
 
   -- where no frame can be joined with a period, the table has none
@@ -53,7 +58,8 @@ module _ (table : List Numbers) (i : ℕ) (d : Numbers) (within : i < length tab
       is_false (is_common table m)
       (λ all.
       let test : Numbers → Bool = λ n. eqb (m % n.period) 0 in
-      let first = list_all-from_AllPass test (take (i + 1) table) (All-take (λ n. test n ≡ true) (i + 1) table (AllPass-from_list_all test table all)) in
+      let first = list_all-from_AllPass test (take (i + 1) table)
+      (All-take (λ n. test n ≡ true) (i + 1) table (AllPass-from_list_all test table all)) in
       let both = parts m first in
       cannot m low near (before.each m both.0) both.1)
 
@@ -74,10 +80,14 @@ multiple_is table h common =
       after = omega (arith, low);
       within = near;
       holds = common.common;
-      none = λ m above below. is_false (is_common table m) (λ all. let least : h ≤ m = le_of_dvd (omega (arith, above)) (dvd_of_mod-eq-zero h (common.each m all)) in omega (arith, least, below));
+      none = λ m above below.
+          is_false (is_common table m)
+          (λ all. let least : h ≤ m = le_of_dvd (omega (arith, above)) (dvd_of_mod-eq-zero h (common.each m all)) in
+          omega (arith, least, below));
     } in
     sym (least_some (is_common table) horizon 0 horizon h first (omega (arith, near)))
 
 -- once every period is joined, it is the table's
-pub all_joined : (table : List Numbers) (i h : ℕ) → length table ≤ i → IsLeastMultiple (take i table) h → IsLeastMultiple table h
+pub all_joined : (table : List Numbers) (i h : ℕ) → length table ≤ i → IsLeastMultiple (take i table) h
+    → IsLeastMultiple table h
 all_joined table i h done common = subst (λ ns. IsLeastMultiple ns h) (take_all i table done) common

@@ -27,7 +27,8 @@ pub frame_low : (h : ℕ) → is_frame h ≡ true → 1 ≤ h
 frame_low h frame = leb-true 1 h (and_parts _ _ frame).0
 
 -- a leaf that is filed with the rows of a counted table and their findings is the leaf of the count
-pub filed_so : (h : Heading) (f : Filed) (rows : List Row) (fs : List Finding) (old new : List ℕ) (r : Result ℕ Fault) → h.frame ≡ f.frame → supplied_plain h.bound ≡ f.bound → rows ≡ f.rows → IsJudged (book f.frame f.rows)
+pub filed_so : (h : Heading) (f : Filed) (rows : List Row) (fs : List Finding) (old new : List ℕ) (r : Result ℕ Fault)
+    → h.frame ≡ f.frame → supplied_plain h.bound ≡ f.bound → rows ≡ f.rows → IsJudged (book f.frame f.rows)
     → map tells fs ≡ filed_findings f
     → answer (λ n. n) r ≡ checked (file_checks h.frame rows fs (length old)) (leaf_length (length rows))
     → IfOk r (λ n. IsFiled (contents h rows fs) old new n) → OnErr r (new ≡ old)
@@ -35,8 +36,10 @@ pub filed_so : (h : Heading) (f : Filed) (rows : List Row) (fs : List Finding) (
 filed_so h f rows fs old new r frame bound are judged found told filed refused =
     let c = contents h rows fs in
     let same : book h.frame rows ≡ book f.frame f.rows = ap₂ book frame are in
-    let meant : family_meaning f.bound.0 f.bound.1 ≡ meaning_of h.bound = sym (means_plain h.bound ∙ ap (λ b. family_meaning b.0 b.1) bound) in
-    let here : map tells fs ≡ findings_of (meaning_of h.bound) h.frame rows = found ∙ ap₂ (λ m b. findings_of m b.frame b.rows) meant (sym same) in
+    let meant : family_meaning f.bound.0 f.bound.1 ≡ meaning_of h.bound =
+    sym (means_plain h.bound ∙ ap (λ b. family_meaning b.0 b.1) bound) in
+    let here : map tells fs ≡ findings_of (meaning_of h.bound) h.frame rows =
+    found ∙ ap₂ (λ m b. findings_of m b.frame b.rows) meant (sym same) in
     let lawful = leaf_lawful (on_sheet h rows) fs (subst IsJudged (sym same) judged) here in (
       c,
       record {

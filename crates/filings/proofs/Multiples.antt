@@ -58,7 +58,8 @@ module _ (a b g : ℕ) (some : 1 ≤ a) (divides : DividesBoth a b g) where
       let multiple : t * p ≡ g * m = is_multiple (g * m) p (divides.multiplied p m by_first by_second) in
       let product : p ≡ g * joined = omega (arith, ap (λ n. n * b) first_part) in
       let taken : g * m ≡ g * (t * joined) = omega (arith, multiple, ap (λ n. t * n) product) in
-      let is : m ≡ t * joined = sym (mul-div_cancel_left m positive) ∙ ap (λ n. n / g) taken ∙ mul-div_cancel_left (t * joined) positive in
+      let is : m ≡ t * joined =
+      sym (mul-div_cancel_left m positive) ∙ ap (λ n. n / g) taken ∙ mul-div_cancel_left (t * joined) positive in
       ap (λ n. n % joined) is ∙ mul-mod_left t joined
 
   -- where it is no greater than the horizon, it is a frame

@@ -1,5 +1,6 @@
 -- A sheet filed in turn: a heading and rows behind it.
-use Rattle.std.proofs.Common.{◌≡◌, ℕ, ◌+◌, ◌*◌, ◌<◌, ◌≤◌, true, not, leb, ltb, List, [], ◌∷◌, ◌++◌, map, length, take, Ok, Err, Option, Result, sym, refl, ap, ◌∙◌, ap₂, subst, arith}
+use Rattle.std.proofs.Common.{◌≡◌, ℕ, ◌+◌, ◌*◌, ◌<◌, ◌≤◌, true, not, leb, ltb, List, [], ◌∷◌, ◌++◌, map, length, take}
+use Rattle.std.proofs.Common.{Ok, Err, Option, Result, sym, refl, ap, ◌∙◌, ap₂, subst, arith}
 use Rattle.std.proofs.lemmas.List.{length-map, map_push}
 use Rattle.std.proofs.lemmas.Bool.{le-ltb, lt-leb, not_from_true}
 use Rattle.std.specs.Prelude.{OnOk}
@@ -48,7 +49,9 @@ pub record Sheeted (old : List ℕ) (t : OnSheet) (end_at : ℕ) (new : List ℕ
   pub place : end_at ≡ row_place (length t.rows)
   pub whole : take end_at new ≡ sheet_bytes t
 
-pub sheeted : {p q : Phase} {old between new : List ℕ} (h : Heading) (rs : List Row) → Files Opening old (heading h) p between → FilesAll p between (map row rs) q new → Sheeted old (on_sheet h rs) (place_of q) new
+pub sheeted : {p q : Phase} {old between new : List ℕ} (h : Heading) (rs : List Row)
+    → Files Opening old (heading h) p between → FilesAll p between (map row rs) q new
+    → Sheeted old (on_sheet h rs) (place_of q) new
 sheeted {p = p} {q = q} {old = old} {between = between} {new = new} h rs begun all =
     let turn = turned (files begun all) (omega arith) in
     let bytes : new ≡ written old 0 (sheet_bytes (on_sheet h rs)) = turn.bytes in
@@ -60,16 +63,22 @@ sheeted {p = p} {q = q} {old = old} {between = between} {new = new} h rs begun a
     }
 
 -- rows filed behind a heading, and one row of the same table more
-module _ {p q : Phase} {old now : List ℕ} (rs : List Row) (empty : rows_in p ≡ 0) (all : FilesAll p old (map row rs) q now) (r : Row) where
+module _ {p q : Phase} {old now : List ℕ} (rs : List Row) (empty : rows_in p ≡ 0)
+    (all : FilesAll p old (map row rs) q now) (r : Row) where
   -- is not refused, where there is room for it
-  pub row_taken : (answered : Result (Unit {0}) Fault) → refusal answered ≡ first_refusal (filed_row_checks q r (length now)) → length rs < most_rows → is_on_frame (frame_in p).ticks r ≡ true → place_of p + (1 + row_size) * (length rs + 1) ≤ length old → IsOk answered
+  pub row_taken : (answered : Result (Unit {0}) Fault)
+      → refusal answered ≡ first_refusal (filed_row_checks q r (length now)) → length rs < most_rows
+      → is_on_frame (frame_in p).ticks r ≡ true → place_of p + (1 + row_size) * (length rs + 1) ≤ length old
+      → IsOk answered
   row_taken answered told few on room =
       let so_far = rows_filed rs all in
       let here : is_on_frame (frame_in q).ticks r ≡ true = ap (λ h. is_on_frame h.ticks r) so_far.frame ∙ on in
       let passes : first_refusal (filed_row_checks q r (length now)) ≡ gives tt =
-      passes_on (leb most_rows (rows_in q)) FullTable (place_of q) _ (lt-leb most_rows (rows_in q) (omega (arith, so_far.rows, empty, few)))
+      passes_on (leb most_rows (rows_in q)) FullTable (place_of q) _
+      (lt-leb most_rows (rows_in q) (omega (arith, so_far.rows, empty, few)))
       ∙ passes_on (not (is_on_frame (frame_in q).ticks r)) OffFrame (place_of q) _ (not_from_true _ here)
-      ∙ passes_on (ltb (length now) (place_of q + 1 + row_size)) ShortBuffer (place_of q) (gives tt) (le-ltb (length now) (place_of q + 1 + row_size) (omega (arith, so_far.place, so_far.size, room))) in
+      ∙ passes_on (ltb (length now) (place_of q + 1 + row_size)) ShortBuffer (place_of q) (gives tt)
+      (le-ltb (length now) (place_of q + 1 + row_size) (omega (arith, so_far.place, so_far.size, room))) in
       by answered (told ∙ passes)
     where
       by : (answered : Result (Unit {0}) Fault) → refusal answered ≡ gives tt → IsOk answered
@@ -77,20 +86,28 @@ module _ {p q : Phase} {old now : List ℕ} (rs : List Row) (empty : rows_in p �
       by (Err fault) given = cc
 
   -- once one row more is filed, all rows up to it are
-  pub rows_taken : {s : Phase} {new : List ℕ} (more : List Row) (answered : Result (Unit {0}) Fault) (u : Unit {0}) → answered ≡ Ok u → OnOk answered (Files q now (row r) s new) → more ≡ rs ++ r ∷ [] → FilesAll p old (map row more) s new
+  pub rows_taken : {s : Phase} {new : List ℕ} (more : List Row) (answered : Result (Unit {0}) Fault) (u : Unit {0})
+      → answered ≡ Ok u → OnOk answered (Files q now (row r) s new) → more ≡ rs ++ r ∷ []
+      → FilesAll p old (map row more) s new
   rows_taken {s = s} {new = new} more answered u is filed are =
       let one : Files q now (row r) s new = subst (λ a. OnOk a (Files q now (row r) s new)) is filed in
       subst (λ es. FilesAll p old es s new) (sym (ap (map row) are ∙ map_push row rs r)) (file_push all one)
 
 -- of a sheet for which there is room nothing is left to be checked
-pub sheet_told : (frame : Option FrameNumbers) (bound : Family × ℕ) (numbers : List Numbers) (size n : ℕ) → gives n ≡ checked (filing_checks frame bound numbers) n → sheet_length numbers ≤ size → gives n ≡ checked (sheet_checks frame bound numbers size) n
+pub sheet_told : (frame : Option FrameNumbers) (bound : Family × ℕ) (numbers : List Numbers) (size n : ℕ)
+    → gives n ≡ checked (filing_checks frame bound numbers) n → sheet_length numbers ≤ size
+    → gives n ≡ checked (sheet_checks frame bound numbers size) n
 sheet_told frame bound numbers size n given room =
-    sym (passes_on (ltb size (sheet_length numbers)) ShortBuffer 0 (gives n) (le-ltb size (sheet_length numbers) room)) ∙ passed_first (filing_checks frame bound numbers) (room_checks numbers size) n n given n
+    sym (passes_on (ltb size (sheet_length numbers)) ShortBuffer 0 (gives n) (le-ltb size (sheet_length numbers) room))
+    ∙ passed_first (filing_checks frame bound numbers) (room_checks numbers size) n n given n
 
 -- the rows of numbers, filed behind a heading, are a sheet of these numbers
-pub sheet_written : {p q : Phase} {old between new : List ℕ} (h : Heading) (rs : List Row) (numbers : List Numbers) (n : HeadingNumbers) (end_at : ℕ) → Files Opening old (heading h) p between → FilesAll p between (map row rs) q new
-    → end_at ≡ place_of q → heading_plain h ≡ n → IsJudged (book h.frame rs) → rs ≡ rows_of numbers → map plain (rows_of numbers) ≡ numbers
-    → (t : OnSheet) × IsTableOf n numbers t × (new ≡ written old 0 (sheet_bytes t)) × FitsSheet (take end_at new) (gives t)
+pub sheet_written : {p q : Phase} {old between new : List ℕ} (h : Heading) (rs : List Row) (numbers : List Numbers)
+    (n : HeadingNumbers) (end_at : ℕ) → Files Opening old (heading h) p between → FilesAll p between (map row rs) q new
+    → end_at ≡ place_of q → heading_plain h ≡ n → IsJudged (book h.frame rs) → rs ≡ rows_of numbers
+    → map plain (rows_of numbers) ≡ numbers
+    → (t : OnSheet) × IsTableOf n numbers t × (new ≡ written old 0 (sheet_bytes t))
+    × FitsSheet (take end_at new) (gives t)
 sheet_written {q = q} {new = new} h rs numbers n end_at begun all place named judged are plain_are =
     let sheet = sheeted h rs begun all in (
       on_sheet h rs,
@@ -100,5 +117,6 @@ sheet_written {q = q} {new = new} h rs numbers n end_at begun all place named ju
     )
 
 -- there are as many rows as numbers
-pub as_many : (t : Book) (h : FrameNumbers) (numbers : List Numbers) → t ≡ book h (rows_of numbers) → map plain (rows_of numbers) ≡ numbers → length t.rows ≡ length numbers
+pub as_many : (t : Book) (h : FrameNumbers) (numbers : List Numbers) → t ≡ book h (rows_of numbers)
+    → map plain (rows_of numbers) ≡ numbers → length t.rows ≡ length numbers
 as_many t h numbers made are = ap (λ b. length b.rows) made ∙ sym (length-map (rows_of numbers) plain) ∙ ap length are

@@ -31,7 +31,8 @@ table_checks frame table = flawless_checks row_flaws table ++ period_check frame
 
 -- all of it, in order: the frame, the accuracy of the bound that is named, the table
 abbrev pub filing_checks : Option FrameNumbers → Family × ℕ → List Numbers → List Check
-filing_checks frame bound table = given_frame_checks frame ++ (family_accuracy_checks bound.0 bound.1 ++ table_checks frame table)
+filing_checks frame bound table =
+    given_frame_checks frame ++ (family_accuracy_checks bound.0 bound.1 ++ table_checks frame table)
 
 -- the frame of a table: the one that is given, or else the common one
 abbrev pub frame_for : Option FrameNumbers → List Numbers → FrameNumbers

@@ -1,7 +1,8 @@
 // The common frame of a table.
 ghost use Rattle.std.specs.Prelude.{IsTrue, ◌≡◌, MatchOption};
 ghost use Rattle.rows.specs.Times.{is_frame};
-ghost use Rattle.filings.specs.Frames.{common_frame, least_multiple, IsCommonFrame, IsLeastMultiple, HasNoFrame, IsJoined, CannotBeJoined, DividesBoth};
+ghost use Rattle.filings.specs.Frames.{common_frame, least_multiple, IsCommonFrame, IsLeastMultiple, HasNoFrame};
+ghost use Rattle.filings.specs.Frames.{IsJoined, CannotBeJoined, DividesBoth};
 
 use rows::{Frame, FrameNumbers, HORIZON, Numbers};
 

@@ -1,5 +1,6 @@
 -- The rows of a leaf that was read, each with its finding.
-use Rattle.std.proofs.Common.{◌≡◌, ℕ, zero, suc, ◌+◌, ◌/◌, ◌≤◌, List, [], ◌∷◌, map, length, drop, Some, None, Option, sym, refl, ap, ◌∙◌, ap₂, arith}
+use Rattle.std.proofs.Common.{◌≡◌, ℕ, zero, suc, ◌+◌, ◌/◌, ◌≤◌, List, [], ◌∷◌, map, length, drop, Some, None, Option}
+use Rattle.std.proofs.Common.{sym, refl, ap, ◌∙◌, ap₂, arith}
 use Rattle.std.specs.Option.{option_map, option_zip}
 use Rattle.std.specs.List.{All, zip}
 use Rattle.std.proofs.Math.Logic.{∥∥₁_elim}
@@ -24,7 +25,8 @@ use Rattle.reading.specs.Told.{told, told_in, told_of, all_told}
 use Rattle.reading.proofs.Ranks.{at_rank_map, rows_length}
 
 -- bytes of rows and of as many findings tell these
-told_are : (rs : List Row) (fs : List Finding) → length fs ≡ length rs → All IsFilable fs → told_in (length rs) (bytes_of (map row rs)) (bytes_of (map finding fs)) ≡ zip (map plain rs) (map tells fs)
+told_are : (rs : List Row) (fs : List Finding) → length fs ≡ length rs → All IsFilable fs
+    → told_in (length rs) (bytes_of (map row rs)) (bytes_of (map finding fs)) ≡ zip (map plain rs) (map tells fs)
 told_are [] fs even good = refl
 told_are (r ∷ rs) [] even good = absurd (omega arith)
 told_are (r ∷ rs) (f ∷ fs) even good =
@@ -43,10 +45,17 @@ module _ (leaf : Leaf) (c : Contents) (holds : Holds leaf c) where
   -- so a leaf tells what its contents tell
   pub all_are : all_told leaf ≡ told_of c
   all_are =
-      ap (λ n. told_in n (row_bytes leaf) (finding_bytes leaf)) count_is ∙ ap₂ (told_in (length c.rows)) holds.rows holds.findings ∙ told_are c.rows c.findings holds.lawful.even holds.lawful.good
+      ap (λ n. told_in n (row_bytes leaf) (finding_bytes leaf)) count_is
+      ∙ ap₂ (told_in (length c.rows)) holds.rows holds.findings
+      ∙ told_are c.rows c.findings holds.lawful.even holds.lawful.good
 
   few_of : length (all_told leaf) ≤ most_rows
-  few_of = omega (arith, length_told (length (row_bytes leaf) / (1 + row_size)) (row_bytes leaf) (finding_bytes leaf), count_is, holds.lawful.few)
+  few_of = omega (
+    arith,
+    length_told (length (row_bytes leaf) / (1 + row_size)) (row_bytes leaf) (finding_bytes leaf),
+    count_is,
+    holds.lawful.few,
+  )
 
 -- at most as many as a table may have
 pub few_told : (leaf : Leaf) → length (all_told leaf) ≤ most_rows
@@ -57,7 +66,8 @@ no_pair : {X Y : Type 0} (o : Option X) → ◌≡◌ {A = Option (X × Y)} None
 no_pair None = refl
 no_pair (Some x) = refl
 
-at_rank_zip : {X Y : Type 0} (rank : ℕ) (xs : List X) (ys : List Y) → at_rank rank (zip xs ys) ≡ option_zip (at_rank rank xs) (at_rank rank ys)
+at_rank_zip : {X Y : Type 0} (rank : ℕ) (xs : List X) (ys : List Y)
+    → at_rank rank (zip xs ys) ≡ option_zip (at_rank rank xs) (at_rank rank ys)
 at_rank_zip zero xs ys = refl
 at_rank_zip (suc zero) [] ys = refl
 at_rank_zip (suc zero) (x ∷ xs) [] = refl
@@ -76,18 +86,23 @@ told_both leaf rank r f rows findings = in_parts r f ∙ ∥∥₁_elim leaf.hel
     is_set : (x y : Option (Numbers × Found)) (p q : x ≡ y) → p ≡ q
     is_set = hlevel props
 
-    in_parts : (r : Option Row) (f : Option Finding) → option_map told (option_zip r f) ≡ option_zip (option_map plain r) (option_map tells f)
+    in_parts : (r : Option Row) (f : Option Finding)
+        → option_map told (option_zip r f) ≡ option_zip (option_map plain r) (option_map tells f)
     in_parts None f = refl
     in_parts (Some r) None = refl
     in_parts (Some r) (Some f) = refl
 
-    of : (c : Contents) → Holds leaf c → option_zip (option_map plain r) (option_map tells f) ≡ at_rank rank (all_told leaf)
+    of : (c : Contents) → Holds leaf c
+        → option_zip (option_map plain r) (option_map tells f) ≡ at_rank rank (all_told leaf)
     of c holds =
-        ap₂ option_zip (rows c holds ∙ sym (at_rank_map plain rank c.rows)) (findings c holds ∙ sym (at_rank_map tells rank c.findings))
-        ∙ sym (at_rank_zip rank (map plain c.rows) (map tells c.findings)) ∙ ap (at_rank rank) (sym (all_are leaf c holds))
+        ap₂ option_zip (rows c holds ∙ sym (at_rank_map plain rank c.rows))
+        (findings c holds ∙ sym (at_rank_map tells rank c.findings))
+        ∙ sym (at_rank_zip rank (map plain c.rows) (map tells c.findings))
+        ∙ ap (at_rank rank) (sym (all_are leaf c holds))
 
 -- what is left of a list begins with its first element
-pub one_left : {X : Type 0} (n : ℕ) (xs : List X) (x : X) → Some x ≡ first_of (drop n xs) → drop n xs ≡ x ∷ drop (suc n) xs
+pub one_left : {X : Type 0} (n : ℕ) (xs : List X) (x : X) → Some x ≡ first_of (drop n xs)
+    → drop n xs ≡ x ∷ drop (suc n) xs
 one_left zero [] x some = cc
 one_left zero (y ∷ xs) x some = let same : x ≡ y = cc in ap (λ z. z ∷ xs) (sym same)
 one_left (suc n) [] x some = cc

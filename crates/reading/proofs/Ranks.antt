@@ -1,5 +1,6 @@
 -- Entries of one size, and what stands at a rank.
-use Rattle.std.proofs.Common.{◌≡◌, ℕ, zero, suc, ◌+◌, ◌-◌, ◌*◌, ◌≤◌, List, [], ◌∷◌, ◌++◌, map, length, take, drop, Some, None, Option, refl, ap, ◌∙◌, subst, arith, Bor}
+use Rattle.std.proofs.Common.{◌≡◌, ℕ, zero, suc, ◌+◌, ◌-◌, ◌*◌, ◌≤◌, List, [], ◌∷◌, ◌++◌, map, length, take, drop, Some}
+use Rattle.std.proofs.Common.{None, Option, refl, ap, ◌∙◌, subst, arith, Bor}
 use Rattle.std.specs.Option.{option_map, IfSome}
 use Rattle.std.specs.List.{All}
 use Rattle.std.specs.Slice.{IsGetRangeResult}
@@ -23,7 +24,8 @@ pub findings_of_size : (fs : List Finding) → AreOfSize finding_size (map findi
 findings_of_size fs = All-map (λ e. length (entry_bytes e) ≡ 1 + finding_size) finding fs (λ k d within. refl)
 
 -- the element at a rank of a list is carried along with it
-pub at_rank_map : {X Y : Type 0} (f : X → Y) (rank : ℕ) (xs : List X) → at_rank rank (map f xs) ≡ option_map f (at_rank rank xs)
+pub at_rank_map : {X Y : Type 0} (f : X → Y) (rank : ℕ) (xs : List X)
+    → at_rank rank (map f xs) ≡ option_map f (at_rank rank xs)
 at_rank_map f zero xs = refl
 at_rank_map f (suc zero) [] = refl
 at_rank_map f (suc zero) (x ∷ xs) = refl
@@ -48,21 +50,32 @@ module _ (size : ℕ) where
   pub entries_length : (es : List Entry) → AreOfSize size es → length (bytes_of es) ≡ (1 + size) * length es
   entries_length [] all = omega arith
   entries_length (e ∷ es) all =
-      omega (arith, length-append (entry_bytes e) (bytes_of es), All-head IsOfSize e es all, entries_length es (All-tail IsOfSize e es all))
+      omega (
+        arith,
+        length-append (entry_bytes e) (bytes_of es),
+        All-head IsOfSize e es all,
+        entries_length es (All-tail IsOfSize e es all),
+      )
 
   -- behind the bytes of the first i entries stand those of the others
-  pub drop_entries : (i : ℕ) (es : List Entry) → AreOfSize size es → drop ((1 + size) * i) (bytes_of es) ≡ bytes_of (drop i es)
+  pub drop_entries : (i : ℕ) (es : List Entry) → AreOfSize size es
+      → drop ((1 + size) * i) (bytes_of es) ≡ bytes_of (drop i es)
   drop_entries zero es all = let none : (1 + size) * 0 ≡ 0 = omega arith in ap (λ n. drop n (bytes_of es)) none
   drop_entries (suc i) [] all = drop_all ((1 + size) * suc i) [] (omega arith)
   drop_entries (suc i) (e ∷ es) all =
-      let next : (1 + size) * suc i ≡ length (entry_bytes e) + (1 + size) * i = omega (arith, All-head IsOfSize e es all) in
-      ap (λ n. drop n (entry_bytes e ++ bytes_of es)) next ∙ drop-append-add (entry_bytes e) (bytes_of es) ((1 + size) * i) ∙ drop_entries i es (All-tail IsOfSize e es all)
+      let next : (1 + size) * suc i ≡ length (entry_bytes e) + (1 + size) * i =
+      omega (arith, All-head IsOfSize e es all) in
+      ap (λ n. drop n (entry_bytes e ++ bytes_of es)) next
+      ∙ drop-append-add (entry_bytes e) (bytes_of es) ((1 + size) * i)
+      ∙ drop_entries i es (All-tail IsOfSize e es all)
 
   -- the body of the first entry is found in the bytes of all
-  first_body : (es : List Entry) → AreOfSize size es → (r : Option (Bor (List ℕ))) → IsGetRangeResult (bytes_of es) 1 (1 + size) r → option_map (λ b. b.now) r ≡ option_map body_of (first_of es)
+  first_body : (es : List Entry) → AreOfSize size es → (r : Option (Bor (List ℕ)))
+      → IsGetRangeResult (bytes_of es) 1 (1 + size) r → option_map (λ b. b.now) r ≡ option_map body_of (first_of es)
   first_body [] all None got = refl
   first_body [] all (Some b) got = absurd (omega (arith, got.0.1))
-  first_body (e ∷ es) all None got = absurd (omega (arith, got.0, length-append (entry_bytes e) (bytes_of es), All-head IsOfSize e es all))
+  first_body (e ∷ es) all None got =
+      absurd (omega (arith, got.0, length-append (entry_bytes e) (bytes_of es), All-head IsOfSize e es all))
   first_body (e ∷ es) all (Some b) got =
       let one = All-head IsOfSize e es all in
       let rest : length (body_of e) ≡ size = omega (arith, length-drop 1 (entry_bytes e)) in
@@ -74,7 +87,8 @@ module _ (size : ℕ) where
   -- too few bytes have no first entry
   no_first : (es : List Entry) → AreOfSize size es → length (bytes_of es) ≤ size → first_of es ≡ None
   no_first [] all few = refl
-  no_first (e ∷ es) all few = absurd (omega (arith, few, length-append (entry_bytes e) (bytes_of es), All-head IsOfSize e es all))
+  no_first (e ∷ es) all few =
+      absurd (omega (arith, few, length-append (entry_bytes e) (bytes_of es), All-head IsOfSize e es all))
 
   module _ (bytes : List ℕ) (i : ℕ) (es : List Entry) (all : AreOfSize size es) (same : bytes ≡ bytes_of es) where
     -- the bytes behind the first i entries
@@ -82,16 +96,24 @@ module _ (size : ℕ) where
     behind = ap (drop ((1 + size) * i)) same ∙ drop_entries i es all
 
     -- a body is found at the rank after i, the body of its entry
-    pub body_found : (part : List ℕ) → part ≡ drop ((1 + size) * i) bytes → (r : Option (Bor (List ℕ))) → IsGetRangeResult part 1 (1 + size) r → option_map (λ b. b.now) r ≡ option_map body_of (at_rank (suc i) es)
-    body_found part from r got = first_body (drop i es) (All-drop IsOfSize i es all) r (subst (λ xs. IsGetRangeResult xs 1 (1 + size) r) (from ∙ behind) got)
+    pub body_found : (part : List ℕ) → part ≡ drop ((1 + size) * i) bytes → (r : Option (Bor (List ℕ)))
+        → IsGetRangeResult part 1 (1 + size) r → option_map (λ b. b.now) r ≡ option_map body_of (at_rank (suc i) es)
+    body_found part from r got =
+        first_body (drop i es) (All-drop IsOfSize i es all) r
+        (subst (λ xs. IsGetRangeResult xs 1 (1 + size) r) (from ∙ behind) got)
 
     -- past the last byte no body is found
     pub none_past : length bytes ≤ (1 + size) * i → at_rank (suc i) es ≡ None
-    none_past past = no_first (drop i es) (All-drop IsOfSize i es all) (omega (arith, past, ap length behind, length-drop ((1 + size) * i) bytes))
+    none_past past =
+        no_first (drop i es) (All-drop IsOfSize i es all)
+        (omega (arith, past, ap length behind, length-drop ((1 + size) * i) bytes))
 
 -- how long the bytes of rows and of findings are
 pub rows_length : (rs : List Row) → length (bytes_of (map row rs)) ≡ (1 + row_size) * length rs
-rows_length rs = entries_length row_size (map row rs) (rows_of_size rs) ∙ ap (λ n. (1 + row_size) * n) (length-map rs row)
+rows_length rs =
+    entries_length row_size (map row rs) (rows_of_size rs) ∙ ap (λ n. (1 + row_size) * n) (length-map rs row)
 
 pub findings_length : (fs : List Finding) → length (bytes_of (map finding fs)) ≡ (1 + finding_size) * length fs
-findings_length fs = entries_length finding_size (map finding fs) (findings_of_size fs) ∙ ap (λ n. (1 + finding_size) * n) (length-map fs finding)
+findings_length fs =
+    entries_length finding_size (map finding fs) (findings_of_size fs)
+    ∙ ap (λ n. (1 + finding_size) * n) (length-map fs finding)

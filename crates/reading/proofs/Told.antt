@@ -22,25 +22,38 @@ use Rattle.reading.specs.Bodies.{body_of}
 use Rattle.reading.proofs.Ranks.{at_rank_map, at_rank_has}
 
 -- the fields of the bodies of entries tell what the entries hold
-module _ {X A : Type 0} (entry : X → Entry) (fields : List ℕ → A) (tell : X → A) (P : X → Type 0) (again : (x : X) → P x → fields (body_of (entry x)) ≡ tell x) where
-  one_told : (o : Option X) → IfSome o P → option_map fields (option_map body_of (option_map entry o)) ≡ option_map tell o
+module _ {X A : Type 0} (entry : X → Entry) (fields : List ℕ → A) (tell : X → A) (P : X → Type 0)
+    (again : (x : X) → P x → fields (body_of (entry x)) ≡ tell x) where
+  one_told : (o : Option X) → IfSome o P
+      → option_map fields (option_map body_of (option_map entry o)) ≡ option_map tell o
   one_told None good = refl
   one_told (Some x) good = ap Some (again x good)
 
-  told : (body : Option (List ℕ)) (rank : ℕ) (xs : List X) → All P xs → body ≡ option_map body_of (at_rank rank (map entry xs)) → option_map fields body ≡ option_map tell (at_rank rank xs)
+  told : (body : Option (List ℕ)) (rank : ℕ) (xs : List X) → All P xs
+      → body ≡ option_map body_of (at_rank rank (map entry xs))
+      → option_map fields body ≡ option_map tell (at_rank rank xs)
   told body rank xs good same =
-      ap (option_map fields) (same ∙ ap (option_map body_of) (at_rank_map entry rank xs)) ∙ one_told (at_rank rank xs) (at_rank_has P rank xs good)
+      ap (option_map fields) (same ∙ ap (option_map body_of) (at_rank_map entry rank xs))
+      ∙ one_told (at_rank rank xs) (at_rank_has P rank xs good)
 
 -- the fields of the body of a row tell the row
-pub row_told : (body : Option (List ℕ)) (rank : ℕ) (rs : List Row) → body ≡ option_map body_of (at_rank rank (map row rs)) → option_map row_fields body ≡ option_map plain (at_rank rank rs)
-row_told body rank rs same = told row row_fields plain (λ r. Unit {0}) (λ r good. row_again r []) body rank rs (λ k d within. tt) same
+pub row_told : (body : Option (List ℕ)) (rank : ℕ) (rs : List Row)
+    → body ≡ option_map body_of (at_rank rank (map row rs))
+    → option_map row_fields body ≡ option_map plain (at_rank rank rs)
+row_told body rank rs same =
+    told row row_fields plain (λ r. Unit {0}) (λ r good. row_again r []) body rank rs (λ k d within. tt) same
 
 -- the fields of the body of a finding that can be filed tell the finding
-pub finding_told : (body : Option (List ℕ)) (rank : ℕ) (fs : List Finding) → All IsFilable fs → body ≡ option_map body_of (at_rank rank (map finding fs)) → option_map (λ b. tells (finding_fields b)) body ≡ option_map tells (at_rank rank fs)
-finding_told body rank fs good same = told finding (λ b. tells (finding_fields b)) tells IsFilable (λ f filable. ap tells (finding_again f [] filable)) body rank fs good same
+pub finding_told : (body : Option (List ℕ)) (rank : ℕ) (fs : List Finding) → All IsFilable fs
+    → body ≡ option_map body_of (at_rank rank (map finding fs))
+    → option_map (λ b. tells (finding_fields b)) body ≡ option_map tells (at_rank rank fs)
+finding_told body rank fs good same =
+    told finding (λ b. tells (finding_fields b)) tells IsFilable
+    (λ f filable. ap tells (finding_again f [] filable)) body rank fs good same
 
 -- the numbers that a row told are judged to be that row
-pub judged_again : (o : Option Row) (n : Numbers) (j : Result Row Fault) → Some n ≡ option_map plain o → answer plain j ≡ checked (flaw_checks row_flaws n 0) n → option_map plain (result_ok j) ≡ option_map plain o
+pub judged_again : (o : Option Row) (n : Numbers) (j : Result Row Fault) → Some n ≡ option_map plain o
+    → answer plain j ≡ checked (flaw_checks row_flaws n 0) n → option_map plain (result_ok j) ≡ option_map plain o
 judged_again None n j is answered = cc
 judged_again (Some r) n (Ok s) is answered = ap Some (given_is (flaw_checks row_flaws n 0) (plain s) n answered) ∙ is
 judged_again (Some r) n (Err e) is answered =

@@ -1,5 +1,6 @@
 -- A reader on its way through a leaf, and where it stops.
-use Rattle.std.proofs.Common.{◌≡◌, ℕ, true, false, List, [], ◌∷◌, ◌++◌, length, is_some, Option, Some, None, sym, refl, ap, ◌∙◌, subst, arith}
+use Rattle.std.proofs.Common.{◌≡◌, ℕ, true, false, List, [], ◌∷◌, ◌++◌, length, is_some, Option, Some, None, sym, refl}
+use Rattle.std.proofs.Common.{ap, ◌∙◌, subst, arith}
 use Rattle.std.proofs.lemmas.List.{append-nil}
 use Rattle.std.proofs.lemmas.Bool.{false≢true}
 use Rattle.rows.specs.declared.refusals.Refusal.{Refusal}
@@ -37,7 +38,8 @@ module _ (bytes : List ℕ) (here next : Reading) (has : HasRead bytes here) whe
   }
 
 -- where a check refuses, the refusal fits
-pub read_refused : (bytes : List ℕ) (here : Reading) → HasRead bytes here → (n : Refusal) (at : ℕ) → refuses n at ≡ first_refusal (next_checks here.phase (place_of here.phase) here.left) → IsRefusedAt bytes n at
+pub read_refused : (bytes : List ℕ) (here : Reading) → HasRead bytes here → (n : Refusal) (at : ℕ)
+    → refuses n at ≡ first_refusal (next_checks here.phase (place_of here.phase) here.left) → IsRefusedAt bytes n at
 read_refused bytes here has n at refused = record {
   before = has.before;
   phase = here.phase;
@@ -53,9 +55,11 @@ pub record HasEnded (bytes : List ℕ) (p : Phase) : Type 0 where
   pub fits : Fits bytes (gives contents)
   pub closed : p ≡ Closed contents.heading (length contents.rows)
 
-pub read_ended : (bytes : List ℕ) (here next : Reading) → HasRead bytes here → (o : Option Entry) → is_some o ≡ false → Takes here o next → HasEnded bytes next.phase
+pub read_ended : (bytes : List ℕ) (here next : Reading) → HasRead bytes here → (o : Option Entry) → is_some o ≡ false
+    → Takes here o next → HasEnded bytes next.phase
 read_ended bytes here next has (Some e) none taken = absurd (false≢true (sym none))
-read_ended bytes here next has None none taken = subst (λ r. HasEnded bytes r.phase) (sym taken.2) (at here.phase has.run taken.0)
+read_ended bytes here next has None none taken =
+    subst (λ r. HasEnded bytes r.phase) (sym taken.2) (at here.phase has.run taken.0)
   where
     at : (p : Phase) → Run Opening has.before p → is_closed p ≡ true → HasEnded bytes p
     at Opening run closed = absurd (false≢true closed)
@@ -65,6 +69,10 @@ read_ended bytes here next has None none taken = subst (λ r. HasEnded bytes r.p
         let c = closing run in
         record {
           contents = c.contents;
-          fits = (c.lawful, has.split ∙ ap (λ xs. bytes_of has.before ++ xs) taken.1 ∙ append-nil (bytes_of has.before) ∙ ap bytes_of c.same);
+          fits = (
+            c.lawful,
+            has.split ∙ ap (λ xs. bytes_of has.before ++ xs) taken.1 ∙ append-nil (bytes_of has.before)
+                ∙ ap bytes_of c.same,
+          );
           closed = c.closed;
         }

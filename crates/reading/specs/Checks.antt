@@ -1,7 +1,8 @@
 -- What is checked at an entry: each check of a leaf stands here, and only here.
 use Rattle.std.specs.Prelude.{ℕ, ◌+◌, Bool, not, ◌||◌, List, [], ◌∷◌, length, ◌==◌, nat_le, nat_lt, if◌then◌else◌}
 use Rattle.rows.specs.declared.frames.FrameNumbers.{FrameNumbers}
-use Rattle.rows.specs.declared.refusals.Refusal.TheVariants.{FullTable, CutLeaf, StrangeLetter, OutOfTurn, Miscount, LooseBytes}
+use Rattle.rows.specs.declared.refusals.Refusal.TheVariants.{FullTable, CutLeaf, StrangeLetter, OutOfTurn, Miscount}
+use Rattle.rows.specs.declared.refusals.Refusal.TheVariants.{LooseBytes}
 use Rattle.rows.specs.Answers.{Check, check}
 use Rattle.rows.specs.Judging.{frame_flaws, flaw_checks}
 use Rattle.rows.specs.Times.{most_rows}

@@ -6,7 +6,8 @@ use Rattle.rows.specs.Times.{most_rows}
 use Rattle.rows.specs.declared.verdicts.Finding.{Finding}
 use Rattle.leaves.specs.declared.entries.Heading.{Heading}
 use Rattle.leaves.specs.declared.entries.Entry.{Entry}
-use Rattle.leaves.specs.declared.entries.Entry.TheVariants.{Heading as heading, Row as row, Finding as finding, End as end}
+use Rattle.leaves.specs.declared.entries.Entry.TheVariants.{Heading as heading, Row as row, Finding as finding}
+use Rattle.leaves.specs.declared.entries.Entry.TheVariants.{End as end}
 use Rattle.leaves.specs.Judging.{IsFilable}
 use Rattle.reading.specs.declared.phases.Phase.{Phase}
 use Rattle.reading.specs.declared.phases.Phase.TheVariants.{Opening, Rows, Findings, Closed}

@@ -21,7 +21,8 @@ row_bytes leaf = leaf.rows.now
 abbrev pub finding_bytes : Leaf → List ℕ
 finding_bytes leaf = leaf.findings.now
 
--- a leaf holds contents: they are lawful, and it has their heading, the bytes of their rows, and those of their findings
+-- a leaf holds contents: they are lawful, and it has their heading, the bytes of their rows, and those of their
+-- findings
 abbrev pub Holds : Leaf → Contents → Type 0
 Holds leaf c = HoldContents (heading_of leaf) (row_bytes leaf) (finding_bytes leaf) c
 
@@ -32,7 +33,8 @@ HoldsSome leaf = HoldSomeContents (heading_of leaf) (row_bytes leaf) (finding_by
 -- the bytes of its rows and those of its findings stand in the bytes that the leaf was read from, one after the other
 abbrev pub ArePartsOf : List ℕ → Leaf → Type 0
 ArePartsOf bytes leaf =
-    (end : List ℕ) × (bytes ≡ entry_bytes (heading (heading_of leaf)) ++ (row_bytes leaf ++ (finding_bytes leaf ++ end)))
+    (end : List ℕ)
+    × (bytes ≡ entry_bytes (heading (heading_of leaf)) ++ (row_bytes leaf ++ (finding_bytes leaf ++ end)))
 
 -- what reading answers is the answer: a leaf that holds the contents, or the refusal and its place
 abbrev pub Reads : Result Leaf Fault → Answer Contents → Type 0

@@ -21,7 +21,8 @@ told e = (plain e.0, tells e.1)
 abbrev pub told_in : ℕ → List ℕ → List ℕ → List (Numbers × Found)
 told_in zero rs fs = []
 told_in (suc n) rs fs =
-    (row_fields (drop 1 rs), tells (finding_fields (drop 1 fs))) ∷ told_in n (drop (1 + row_size) rs) (drop (1 + finding_size) fs)
+    (row_fields (drop 1 rs), tells (finding_fields (drop 1 fs)))
+    ∷ told_in n (drop (1 + row_size) rs) (drop (1 + finding_size) fs)
 
 -- all that a leaf tells, in rank order
 abbrev pub all_told : Leaf → List (Numbers × Found)

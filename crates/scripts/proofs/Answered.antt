@@ -1,5 +1,6 @@
 -- A script that names a bound and makes calls has the book's answers written.
-use Rattle.std.proofs.Common.{◌≡◌, ℕ, ◌==◌, Bool, true, false, not, cond, List, [], ◌∷◌, ◌++◌, map, refl, sym, ap, ◌∙◌, arith}
+use Rattle.std.proofs.Common.{◌≡◌, ℕ, ◌==◌, Bool, true, false, not, cond, List, [], ◌∷◌, ◌++◌, map, refl, sym, ap, ◌∙◌}
+use Rattle.std.proofs.Common.{arith}
 use Rattle.std.specs.List.{AllByRecursion}
 use Rattle.std.proofs.lemmas.Bool.{eqb-true, true≢false}
 use Rattle.std.proofs.lemmas.Bool.Decides.{nat_tests}
@@ -15,7 +16,8 @@ use Rattle.admission.specs.Runs.{answers_from}
 use Rattle.scripts.specs.declared.lines.ScriptLine.{ScriptLine}
 use Rattle.scripts.specs.Runs.{as_lines, script_output, CallsAreAnswered}
 use Rattle.scripts.specs.Scripts.{line_feed}
-use Rattle.scripts.specs.Sessions.{State, named, unnamed, named_meaning, begins_by, first_stage, output_from, heard, reaction_text, next_number}
+use Rattle.scripts.specs.Sessions.{State, named, unnamed, named_meaning, begins_by, first_stage, output_from, heard}
+use Rattle.scripts.specs.Sessions.{reaction_text, next_number}
 use Rattle.scripts.specs.Texts.{answer_text, bound_text, call_text, FitsBound, FitsLine}
 use Rattle.scripts.proofs.Plain.{Plain, Plain-bound, Plain-call, script_lines-plain}
 use Rattle.scripts.proofs.Printed.{bound_reads, call_reads}
@@ -26,16 +28,19 @@ plain_calls (call ∷ calls) fits = (Plain-call call fits.0, plain_calls calls f
 
 -- the output for lines of which the first is read as a line
 first_read : (s : State) (n : ℕ) (lines : List (List ℕ)) → ScriptLine → List ℕ
-first_read s n lines l = reaction_text n (heard s l).1 ++ output_from (record { number = n; state = (heard s l).0 }) lines
+first_read s n lines l =
+    reaction_text n (heard s l).1 ++ output_from (record { number = n; state = (heard s l).0 }) lines
 
 -- calls are answered one after the other
 calls_answered : (m : Meaning) (calls : List Call) → AllByRecursion FitsLine calls → (n : ℕ) (b : Book)
-    → output_from (record { number = n; state = named m b }) (map call_text calls) ≡ as_lines (map answer_text (answers_from m b calls))
+    → output_from (record { number = n; state = named m b }) (map call_text calls)
+    ≡ as_lines (map answer_text (answers_from m b calls))
 unfolding first_read
 calls_answered m [] fits n b = refl
 calls_answered m (call ∷ calls) fits n b =
     ap (first_read (named m b) (next_number n) (map call_text calls)) (call_reads call fits.0)
-    ∙ ap (λ t. (answer_text (step m b call).1 ++ line_feed ∷ []) ++ t) (calls_answered m calls fits.1 (next_number n) (step m b call).0)
+    ∙ ap (λ t. (answer_text (step m b call).1 ++ line_feed ∷ []) ++ t)
+    (calls_answered m calls fits.1 (next_number n) (step m b call).0)
 
 -- the lines of such a script, and what is written for them
 output_of : (naming : List ℕ) (calls : List Call) → Plain naming → AllByRecursion FitsLine calls

@@ -9,9 +9,11 @@ use Rattle.scripts.specs.Lines.{line_by_words, line_of}
 use Rattle.scripts.specs.Words.{words_of}
 
 -- a line that is too long is judged by its first byte
-judged_long : (named : Bool) (line : List ℕ) → 128 < length line → line_of named line ≡ cond (get_or line 0 0 == 35) Passed (NoCall ShortLine)
+judged_long : (named : Bool) (line : List ℕ) → 128 < length line
+    → line_of named line ≡ cond (get_or line 0 0 == 35) Passed (NoCall ShortLine)
 judged_long named line long =
-    ap (λ v. cond (get_or line 0 0 == 35) Passed (cond v (NoCall ShortLine) (line_by_words named (words_of line)))) (lt-ltb 128 (length line) long)
+    ap (λ v. cond (get_or line 0 0 == 35) Passed (cond v (NoCall ShortLine) (line_by_words named (words_of line))))
+    (lt-ltb 128 (length line) long)
 
 -- clipped to 129 bytes it is still too long, and begins so
 pub line_of_clipped : (named : Bool) (line : List ℕ) → line_of named (take 129 line) ≡ line_of named line

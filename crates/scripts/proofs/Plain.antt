@@ -1,5 +1,6 @@
 -- Lines whose bytes are blanks and what is printed: they hold no line feed and no carriage return.
-use Rattle.std.proofs.Common.{◌≡◌, ℕ, zero, suc, ◌+◌, ◌-◌, ◌%◌, ◌<◌, ◌≤◌, ◌^◌, ◌==◌, Bool, true, false, cond, List, [], ◌∷◌, ◌++◌, length, map, take, get_or, refl, sym, ap, ◌∙◌, arith, append-nil, append_assoc}
+use Rattle.std.proofs.Common.{◌≡◌, ℕ, zero, suc, ◌+◌, ◌-◌, ◌%◌, ◌<◌, ◌≤◌, ◌^◌, ◌==◌, Bool, true, false, cond, List, []}
+use Rattle.std.proofs.Common.{◌∷◌, ◌++◌, length, map, take, get_or, refl, sym, ap, ◌∙◌, arith, append-nil, append_assoc}
 use Rattle.std.specs.Prelude.{decimal}
 use Rattle.std.specs.List.{AllByRecursion}
 use Rattle.std.proofs.lemmas.Bool.{ne_eqb}
@@ -9,7 +10,8 @@ use Rattle.bounds.specs.declared.families.Family.{Family}
 use Rattle.bounds.specs.Families.{family_word, has_accuracies}
 use Rattle.admission.specs.declared.calls.Call.{Call}
 use Rattle.admission.specs.declared.calls.Call.TheVariants.{Frame, Admit, Dismiss, Inquire}
-use Rattle.scripts.specs.Scripts.{line_feed, carriage_return, without_return, begun_after, ended_lines, last_line, script_lines}
+use Rattle.scripts.specs.Scripts.{line_feed, carriage_return, without_return, begun_after, ended_lines, last_line}
+use Rattle.scripts.specs.Scripts.{script_lines}
 use Rattle.scripts.specs.Runs.{as_lines}
 use Rattle.scripts.specs.Texts.{bound_text, call_text, numbers_text, FitsBound, FitsLine, FitNumbers}
 use Rattle.scripts.proofs.WordsOfBounds.{InWord, names_well}
@@ -54,14 +56,56 @@ Plain-bound f k fits = by_case (has_accuracies f)
     by_case false = word
 
 pub Plain-call : (call : Call) → FitsLine call → Plain (call_text call)
-Plain-call (Frame h) fits =
-    (omega arith, (omega arith, (omega arith, (omega arith, (omega arith, Plain-blank (decimal h.ticks) (Plain-decimal h.ticks fits))))))
-Plain-call (Admit rank n) fits =
-    (omega arith, (omega arith, (omega arith, (omega arith, (omega arith, Plain-blank _ (Plain-append (decimal rank) _ (Plain-decimal rank fits.0) (Plain-blank _ (Plain-numbers n fits.1))))))))
-Plain-call (Dismiss rank) fits =
-    (omega arith, (omega arith, (omega arith, (omega arith, (omega arith, (omega arith, (omega arith, Plain-blank (decimal rank) (Plain-decimal rank fits))))))))
-Plain-call (Inquire rank) fits =
-    (omega arith, (omega arith, (omega arith, (omega arith, (omega arith, (omega arith, (omega arith, Plain-blank (decimal rank) (Plain-decimal rank fits))))))))
+Plain-call (Frame h) fits = (
+  omega arith,
+  (
+    omega arith,
+    (omega arith, (omega arith, (omega arith, Plain-blank (decimal h.ticks) (Plain-decimal h.ticks fits)))),
+  ),
+)
+Plain-call (Admit rank n) fits = (
+  omega arith,
+  (
+    omega arith,
+    (
+      omega arith,
+      (
+        omega arith,
+        (
+          omega arith,
+          Plain-blank _
+              (Plain-append (decimal rank) _ (Plain-decimal rank fits.0) (Plain-blank _ (Plain-numbers n fits.1))),
+        ),
+      ),
+    ),
+  ),
+)
+Plain-call (Dismiss rank) fits = (
+  omega arith,
+  (
+    omega arith,
+    (
+      omega arith,
+      (
+        omega arith,
+        (omega arith, (omega arith, (omega arith, Plain-blank (decimal rank) (Plain-decimal rank fits)))),
+      ),
+    ),
+  ),
+)
+Plain-call (Inquire rank) fits = (
+  omega arith,
+  (
+    omega arith,
+    (
+      omega arith,
+      (
+        omega arith,
+        (omega arith, (omega arith, (omega arith, Plain-blank (decimal rank) (Plain-decimal rank fits)))),
+      ),
+    ),
+  ),
+)
 
 -- ---- such lines, with a line feed behind each
 
@@ -81,7 +125,8 @@ ended_first : (line rest begun : List ℕ) → Plain line
     → ended_lines begun (line ++ line_feed ∷ rest) ≡ (begun ++ line) ∷ ended_lines [] rest
 ended_first [] rest begun p = ap (λ l. l ∷ ended_lines [] rest) (sym (append-nil begun))
 ended_first (b ∷ line) rest begun p =
-    ap (λ v. cond v (begun ∷ []) [] ++ ended_lines (cond v [] (begun ++ b ∷ [])) (line ++ line_feed ∷ rest)) (no_feed b p.0)
+    ap (λ v. cond v (begun ∷ []) [] ++ ended_lines (cond v [] (begun ++ b ∷ [])) (line ++ line_feed ∷ rest))
+    (no_feed b p.0)
     ∙ ended_first line rest (begun ++ b ∷ []) p.1
     ∙ ap (λ l. l ∷ ended_lines [] rest) (append_assoc begun (b ∷ []) line)
 
@@ -99,7 +144,8 @@ behind line lines = append_assoc line (line_feed ∷ []) (as_lines lines)
 ended_all : (lines : List (List ℕ)) → AllByRecursion Plain lines → ended_lines [] (as_lines lines) ≡ lines
 ended_all [] p = refl
 ended_all (line ∷ lines) p =
-    ap (ended_lines []) (behind line lines) ∙ ended_first line (as_lines lines) [] p.0 ∙ ap (λ ls. line ∷ ls) (ended_all lines p.1)
+    ap (ended_lines []) (behind line lines) ∙ ended_first line (as_lines lines) [] p.0
+    ∙ ap (λ ls. line ∷ ls) (ended_all lines p.1)
 
 begun_none : (lines : List (List ℕ)) → AllByRecursion Plain lines → begun_after [] (as_lines lines) ≡ []
 begun_none [] p = refl

@@ -1,5 +1,6 @@
 -- One byte more of a script.
-use Rattle.std.proofs.Common.{◌≡◌, ℕ, ◌+◌, ◌<◌, List, ◌∷◌, ◌++◌, length, drop, get_or, refl, sym, ap, ◌∙◌, append_assoc, add-one, drop-cons}
+use Rattle.std.proofs.Common.{◌≡◌, ℕ, ◌+◌, ◌<◌, List, ◌∷◌, ◌++◌, length, drop, get_or, refl, sym, ap, ◌∙◌, append_assoc}
+use Rattle.std.proofs.Common.{add-one, drop-cons}
 use Rattle.scripts.specs.PlayState.{PlayState, after_byte, written_for_byte, after_bytes, written_for_bytes}
 
 module _ (p : PlayState) (bytes : List ℕ) (i : ℕ) (inside : i < length bytes) where
@@ -14,7 +15,8 @@ module _ (p : PlayState) (bytes : List ℕ) (i : ℕ) (inside : i < length bytes
 
   -- what is written for it, and for what is left
   pub written_next : written_for_bytes p (drop i bytes)
-      ≡ written_for_byte p (get_or bytes i 0) ++ written_for_bytes (after_byte p (get_or bytes i 0)) (drop (i + 1) bytes)
+      ≡ written_for_byte p (get_or bytes i 0)
+      ++ written_for_bytes (after_byte p (get_or bytes i 0)) (drop (i + 1) bytes)
   written_next = ap (written_for_bytes p) left
 
   pub written_more : (q : PlayState) (front all : List ℕ) → q ≡ after_byte p (get_or bytes i 0)

@@ -1,5 +1,6 @@
 -- What is written of a call or a bound reads as that.
-use Rattle.std.proofs.Common.{◌≡◌, ℕ, ◌<◌, ◌≤◌, ◌^◌, Bool, true, false, cond, List, [], ◌∷◌, ◌++◌, length, get_or, Some, refl, sym, ap, ◌∙◌, arith, append-nil}
+use Rattle.std.proofs.Common.{◌≡◌, ℕ, ◌<◌, ◌≤◌, ◌^◌, Bool, true, false, cond, List, [], ◌∷◌, ◌++◌, length, get_or, Some}
+use Rattle.std.proofs.Common.{refl, sym, ap, ◌∙◌, arith, append-nil}
 use Rattle.std.specs.Prelude.{nat_lt, decimal, ◌==◌}
 use Rattle.std.specs.Char.{is_ascii_digit}
 use Rattle.std.specs.List.{filter, slice_split}
@@ -33,9 +34,11 @@ split_last : (w : List ℕ) → InWord w → slice_split is_blank w ≡ w ∷ []
 split_last [] d = refl
 split_last (b ∷ w) d = rw (no_blank b d.0, split_last w d.1) refl
 
-kept : (w : List ℕ) (parts : List (List ℕ)) → 0 < length w → filter (λ word. nat_lt 0 (length word)) (w ∷ parts) ≡ w ∷ filter (λ word. nat_lt 0 (length word)) parts
+kept : (w : List ℕ) (parts : List (List ℕ)) → 0 < length w
+    → filter (λ word. nat_lt 0 (length word)) (w ∷ parts) ≡ w ∷ filter (λ word. nat_lt 0 (length word)) parts
 kept w parts some =
-    ap (λ v. cond v (w ∷ filter (λ word. nat_lt 0 (length word)) parts) (filter (λ word. nat_lt 0 (length word)) parts)) (lt-ltb 0 (length w) some)
+    ap (λ v. cond v (w ∷ filter (λ word. nat_lt 0 (length word)) parts) (filter (λ word. nat_lt 0 (length word)) parts))
+    (lt-ltb 0 (length w) some)
 
 words_of-word : (w rest : List ℕ) → InWord w → 0 < length w → words_of (w ++ 32 ∷ rest) ≡ w ∷ words_of rest
 words_of-word w rest d some =
@@ -116,15 +119,18 @@ module _ (f : Family) (k : ℕ) (fits : FitsBound f k) where
 pub call_reads : (call : BenchCall) → FitsLine call → line_of true (call_text call) ≡ Call call
 call_reads (Frame h) small =
     let p : Printed h.ticks = printed h.ticks small in
-    let short : nat_lt 128 (length (call_text (Frame h))) ≡ false = le-ltb 128 (length (call_text (Frame h))) (omega (arith, p.short)) in
+    let short : nat_lt 128 (length (call_text (Frame h))) ≡ false =
+    le-ltb 128 (length (call_text (Frame h))) (omega (arith, p.short)) in
     rw (short, words_of-last h.ticks p, p.read) refl
 call_reads (Dismiss rank) small =
     let p : Printed rank = printed rank small in
-    let short : nat_lt 128 (length (call_text (Dismiss rank))) ≡ false = le-ltb 128 (length (call_text (Dismiss rank))) (omega (arith, p.short)) in
+    let short : nat_lt 128 (length (call_text (Dismiss rank))) ≡ false =
+    le-ltb 128 (length (call_text (Dismiss rank))) (omega (arith, p.short)) in
     rw (short, words_of-last rank p, p.read) refl
 call_reads (Inquire rank) small =
     let p : Printed rank = printed rank small in
-    let short : nat_lt 128 (length (call_text (Inquire rank))) ≡ false = le-ltb 128 (length (call_text (Inquire rank))) (omega (arith, p.short)) in
+    let short : nat_lt 128 (length (call_text (Inquire rank))) ≡ false =
+    le-ltb 128 (length (call_text (Inquire rank))) (omega (arith, p.short)) in
     rw (short, words_of-last rank p, p.read) refl
 call_reads (Admit rank n) small =
     let p : Printed rank = printed rank small.0 in
@@ -134,13 +140,17 @@ call_reads (Admit rank n) small =
     let j : Printed n.jitter = printed n.jitter small.1.jitter in
     let rest4 : words_of (decimal n.period ++ 32 ∷ decimal n.jitter) ≡ decimal n.period ∷ decimal n.jitter ∷ [] =
     words_of-first n.period (decimal n.jitter) t ∙ ap (λ ws. decimal n.period ∷ ws) (words_of-last n.jitter j) in
-    let rest3 = words_of-first n.deadline (decimal n.period ++ 32 ∷ decimal n.jitter) d ∙ ap (λ ws. decimal n.deadline ∷ ws) rest4 in
-    let rest2 = words_of-first n.work (decimal n.deadline ++ 32 ∷ (decimal n.period ++ 32 ∷ decimal n.jitter)) w ∙ ap (λ ws. decimal n.work ∷ ws) rest3 in
+    let rest3 = words_of-first n.deadline (decimal n.period ++ 32 ∷ decimal n.jitter) d
+    ∙ ap (λ ws. decimal n.deadline ∷ ws) rest4 in
+    let rest2 = words_of-first n.work (decimal n.deadline ++ 32 ∷ (decimal n.period ++ 32 ∷ decimal n.jitter)) w
+    ∙ ap (λ ws. decimal n.work ∷ ws) rest3 in
     let rest1 = words_of-first rank (numbers_text n) p ∙ ap (λ ws. decimal rank ∷ ws) rest2 in
     let l4 = length-append (decimal n.period) (32 ∷ decimal n.jitter) in
     let l3 = length-append (decimal n.deadline) (32 ∷ (decimal n.period ++ 32 ∷ decimal n.jitter)) in
-    let l2 = length-append (decimal n.work) (32 ∷ (decimal n.deadline ++ 32 ∷ (decimal n.period ++ 32 ∷ decimal n.jitter))) in
+    let l2 = length-append (decimal n.work)
+    (32 ∷ (decimal n.deadline ++ 32 ∷ (decimal n.period ++ 32 ∷ decimal n.jitter))) in
     let l1 = length-append (decimal rank) (32 ∷ numbers_text n) in
     let short : nat_lt 128 (length (call_text (Admit rank n))) ≡ false =
-    le-ltb 128 (length (call_text (Admit rank n))) (omega (arith, p.short, w.short, d.short, t.short, j.short, l1, l2, l3, l4)) in
+    le-ltb 128 (length (call_text (Admit rank n)))
+    (omega (arith, p.short, w.short, d.short, t.short, j.short, l1, l2, l3, l4)) in
     rw (short, rest1, p.read, w.read, d.read, t.read, j.read) refl

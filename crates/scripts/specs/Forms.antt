@@ -4,7 +4,8 @@ use Rattle.std.specs.Str.{bytes_eq}
 use Rattle.bounds.specs.declared.families.TheConstants.Family.{ALL}
 use Rattle.bounds.specs.Families.{family_word, has_accuracies}
 use Rattle.scripts.specs.declared.forms.Field.{Field}
-use Rattle.scripts.specs.declared.forms.Field.TheVariants.{Rank, Accuracy, Frame as FrameField, Work, Deadline, Period, Jitter}
+use Rattle.scripts.specs.declared.forms.Field.TheVariants.{Rank, Accuracy, Frame as FrameField, Work, Deadline, Period}
+use Rattle.scripts.specs.declared.forms.Field.TheVariants.{Jitter}
 use Rattle.scripts.specs.declared.forms.LineForm.{LineForm}
 use Rattle.scripts.specs.declared.forms.LineForm.TheVariants.{Bound, Frame, Admit, Dismiss, Inquire}
 

@@ -1,10 +1,13 @@
 -- What a line of a script says: its bytes, without its end, once a bound has been named or before.
-use Rattle.std.specs.Prelude.{ℕ, Bool, true, false, List, [], ◌∷◌, length, Result, Ok, Err, ◌==◌, nat_lt, slice_index, if◌then◌else◌}
+use Rattle.std.specs.Prelude.{ℕ, Bool, true, false, List, [], ◌∷◌, length, Result, Ok, Err, ◌==◌, nat_lt, slice_index}
+use Rattle.std.specs.Prelude.{if◌then◌else◌}
 use Rattle.std.specs.Option.{option_map_or}
 use Rattle.rows.specs.Frames.{frame_of}
-use Rattle.admission.specs.declared.calls.Call.TheVariants.{Frame as SetFrame, Admit as AdmitRow, Dismiss as DismissRow, Inquire as InquireRow}
+use Rattle.admission.specs.declared.calls.Call.TheVariants.{Frame as SetFrame, Admit as AdmitRow, Dismiss as DismissRow}
+use Rattle.admission.specs.declared.calls.Call.TheVariants.{Inquire as InquireRow}
 use Rattle.scripts.specs.declared.expecting.ExpectedWords.{ExpectedWords}
-use Rattle.scripts.specs.declared.expecting.ExpectedWords.TheVariants.{ShortLine, Bound as AnyBound, CallName, Form as WordsOfForm, Number}
+use Rattle.scripts.specs.declared.expecting.ExpectedWords.TheVariants.{ShortLine, Bound as AnyBound, CallName}
+use Rattle.scripts.specs.declared.expecting.ExpectedWords.TheVariants.{Form as WordsOfForm, Number}
 use Rattle.scripts.specs.declared.forms.Field.{Field}
 use Rattle.scripts.specs.declared.forms.LineForm.{LineForm}
 use Rattle.scripts.specs.declared.forms.LineForm.TheVariants.{Bound as BoundForm, Frame, Admit, Dismiss, Inquire}
@@ -31,7 +34,14 @@ abbrev pub line_by_numbers : LineForm → List ℕ → ScriptLine
 line_by_numbers (BoundForm f) ns = NamedBound f (slice_index ns 0)
 line_by_numbers Frame ns = Call (SetFrame (frame_of (slice_index ns 0)))
 line_by_numbers Admit ns =
-    Call (AdmitRow (slice_index ns 0) (record { work = slice_index ns 1; deadline = slice_index ns 2; period = slice_index ns 3; jitter = slice_index ns 4 }))
+    Call (AdmitRow (slice_index ns 0)
+    (record {
+      work = slice_index ns 1;
+      deadline = slice_index ns 2;
+      period = slice_index ns 3;
+      jitter =
+          slice_index ns 4;
+    }))
 line_by_numbers Dismiss ns = Call (DismissRow (slice_index ns 0))
 line_by_numbers Inquire ns = Call (InquireRow (slice_index ns 0))
 
@@ -58,7 +68,8 @@ line_by_words named [] = Passed
 line_by_words named (word ∷ words) =
     option_map_or (λ form. line_by_form form words) (form_for named word) (NoCall (expected_name named))
 
--- what a line says: nothing where its first byte is #, whatever its length, and else by its words, if it is not too long
+-- what a line says: nothing where its first byte is #, whatever its length, and else by its words, if it is not too
+-- long
 abbrev pub line_of : Bool → List ℕ → ScriptLine
 line_of named line =
     if slice_index line 0 == 35 then Passed

@@ -28,7 +28,8 @@ written_at_end p = written_for p.stage (without_return p.line)
 
 -- the progress after one byte more
 abbrev pub after_byte : PlayState → ℕ → PlayState
-after_byte p b = if b == line_feed then once_ended p else record { stage = p.stage; line = take room (p.line ++ b ∷ []) }
+after_byte p b =
+    if b == line_feed then once_ended p else record { stage = p.stage; line = take room (p.line ++ b ∷ []) }
 
 -- what is written for it: the answer to the line that it ends, if it ends one
 abbrev pub written_for_byte : PlayState → ℕ → List ℕ

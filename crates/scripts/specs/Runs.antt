@@ -34,8 +34,10 @@ pub record Plays (held left old new : Option (List ℕ)) : Type 0 where
 -- where reading has failed, each line that had ended is answered; where writing has, no more is written than what is
 -- for the bytes that were read
 abbrev pub HasPlayed : Failure → (held left old new : Option (List ℕ)) → Type 0
-HasPlayed (Reading e) held left old new = (taken : List ℕ) × Consumes held left taken × Appends old new (ended_output taken)
-HasPlayed (Writing e) held left old new = (taken : List ℕ) × Consumes held left taken × Begun old new (script_output taken)
+HasPlayed (Reading e) held left old new =
+    (taken : List ℕ) × Consumes held left taken × Appends old new (ended_output taken)
+HasPlayed (Writing e) held left old new =
+    (taken : List ℕ) × Consumes held left taken × Begun old new (script_output taken)
 
 -- in either case a beginning is written of what is written for all that the reader held
 pub record BeginsToPlay (held old new : Option (List ℕ)) : Type 0 where

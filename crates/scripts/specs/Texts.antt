@@ -1,5 +1,6 @@
 -- What is written: calls, and the answers to lines, each as the bytes of a line without its end.
-use Rattle.std.specs.Prelude.{◌≡◌, ℕ, ◌^◌, ◌<◌, false, List, [], ◌++◌, Option, Some, None, codes, decimal, if◌then◌else◌}
+use Rattle.std.specs.Prelude.{◌≡◌, ℕ, ◌^◌, ◌<◌, false, List, [], ◌++◌, Option, Some, None, codes, decimal}
+use Rattle.std.specs.Prelude.{if◌then◌else◌}
 use Rattle.std.specs.List.{join_by}
 use Rattle.rows.specs.declared.refusals.Refusal.{Refusal}
 use Rattle.rows.specs.declared.tasks.Numbers.{Numbers}
@@ -16,7 +17,9 @@ use Rattle.scripts.specs.Forms.{field_text, form_text, forms_once}
 
 -- four numbers, with blanks between them
 abbrev pub numbers_text : Numbers → List ℕ
-numbers_text n = decimal n.work ++ (codes " " ++ (decimal n.deadline ++ (codes " " ++ (decimal n.period ++ (codes " " ++ decimal n.jitter)))))
+numbers_text n =
+    decimal n.work
+    ++ (codes " " ++ (decimal n.deadline ++ (codes " " ++ (decimal n.period ++ (codes " " ++ decimal n.jitter)))))
 
 -- the line that makes a call
 abbrev pub call_text : Call → List ℕ
@@ -73,4 +76,5 @@ expected_text (Number field) = codes "a number from 0 to 4294967295 for " ++ fie
 
 -- the line that answers one that is no call, by its number
 abbrev pub no_call_text : ℕ → ExpectedWords → List ℕ
-no_call_text line expected = codes "not a call at line " ++ (decimal line ++ (codes ": expected " ++ expected_text expected))
+no_call_text line expected =
+    codes "not a call at line " ++ (decimal line ++ (codes ": expected " ++ expected_text expected))

@@ -23,7 +23,8 @@ pub(crate) struct Player {
 }
 
 impl Player {
-    ghost use Rattle.scripts.specs.PlayState.{progress_of, first_progress, once_ended, written_at_end, after_byte, written_for_byte, after_bytes, written_for_bytes, written_last};
+    ghost use Rattle.scripts.specs.PlayState.{progress_of, first_progress, once_ended, written_at_end, after_byte};
+    ghost use Rattle.scripts.specs.PlayState.{written_for_byte, after_bytes, written_for_bytes, written_last};
 
     // Before the first byte of a script.
     pub(crate) fn new() -> Player

@@ -30,11 +30,14 @@ text_field bytes (Number n) is = absurd is
 text_field bytes (Text text) is = is
 
 -- the cells of a row tell its fields
-pub row_told : (rank : ℕ) (n : Numbers) (rest : Option ℕ) (points : ℕ) → map field_of (row_cells rank n (found rest points)) ≡ row_record_fields rank n (found rest points)
+pub row_told : (rank : ℕ) (n : Numbers) (rest : Option ℕ) (points : ℕ)
+    → map field_of (row_cells rank n (found rest points)) ≡ row_record_fields rank n (found rest points)
 row_told rank n None points = refl
 row_told rank n (Some rest) points = refl
 
 -- the cells of a row behind those of the heading tell the fields of a record
-pub record_told : (name : List ℕ) (h : Heading) (rank : ℕ) (n : Numbers) (f : Found) (cells : List Cell) → map field_of cells ≡ heading_record_fields name h → map field_of (cells ++ row_cells rank n f) ≡ record_fields name h rank n f
+pub record_told : (name : List ℕ) (h : Heading) (rank : ℕ) (n : Numbers) (f : Found) (cells : List Cell)
+    → map field_of cells ≡ heading_record_fields name h
+    → map field_of (cells ++ row_cells rank n f) ≡ record_fields name h rank n f
 record_told name h rank n f cells heading =
     map-append field_of cells (row_cells rank n f) ∙ ap₂ (λ xs ys. xs ++ ys) heading (row_told rank n f.rest f.points)

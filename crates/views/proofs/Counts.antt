@@ -1,5 +1,6 @@
 -- A table that was counted, and what is told of a place of it.
-use Rattle.std.proofs.Common.{◌≡◌, ℕ, zero, suc, ◌+◌, ◌<◌, List, [], ◌∷◌, ◌++◌, length, map, Some, Option, refl, subst, sym, ap, ap₂, ◌∙◌, arith, slice_index_or, take}
+use Rattle.std.proofs.Common.{◌≡◌, ℕ, zero, suc, ◌+◌, ◌<◌, List, [], ◌∷◌, ◌++◌, length, map, Some, Option, refl, subst}
+use Rattle.std.proofs.Common.{sym, ap, ap₂, ◌∙◌, arith, slice_index_or, take}
 use Rattle.std.specs.Prelude.{Vec, slice_get}
 use Rattle.std.specs.declared.alloc.Global.{Global}
 use Rattle.std.proofs.lemmas.List.{length-map, map-append}
@@ -41,30 +42,43 @@ counted_is h b table ns f same given told =
     }
 
 -- of a table that was counted there are as many findings as rows
-pub findings_even : (f : Filed) (found : List Finding) → map tells found ≡ filed_findings f → length found ≡ length f.rows
-findings_even f found is = sym (length-map found tells) ∙ ap length is ∙ length_findings_below (family_meaning f.bound.0 f.bound.1) f.frame [] f.rows
+pub findings_even : (f : Filed) (found : List Finding) → map tells found ≡ filed_findings f
+    → length found ≡ length f.rows
+findings_even f found is =
+    sym (length-map found tells) ∙ ap length is
+    ∙ length_findings_below (family_meaning f.bound.0 f.bound.1) f.frame [] f.rows
 
 -- what stands at a place is read there
-pub at_place : {X Y : Type 0} (f : X → Y) (xs : List X) (i : ℕ) (d : X) → i < length xs → slice_get (map f xs) i ≡ Some (f (slice_index_or xs i d))
+pub at_place : {X Y : Type 0} (f : X → Y) (xs : List X) (i : ℕ) (d : X) → i < length xs
+    → slice_get (map f xs) i ≡ Some (f (slice_index_or xs i d))
 at_place f [] i d within = absurd (omega (arith, within))
 at_place f (x ∷ xs) zero d within = refl
 at_place f (x ∷ xs) (suc i) d within = at_place f xs i d (omega (arith, within))
 
 -- the first elements of a list with the next one behind them
-pub take_one : {X : Type 0} (xs : List X) (i : ℕ) (d : X) → i < length xs → take (suc i) xs ≡ take i xs ++ slice_index_or xs i d ∷ []
+pub take_one : {X : Type 0} (xs : List X) (i : ℕ) (d : X) → i < length xs
+    → take (suc i) xs ≡ take i xs ++ slice_index_or xs i d ∷ []
 take_one [] i d within = absurd (omega (arith, within))
 take_one (x ∷ xs) zero d within = refl
 take_one (x ∷ xs) (suc i) d within = ap (λ ys. x ∷ ys) (take_one xs i d (omega (arith, within)))
 
 -- what is told of a row and of what both counts found is told of its place
-pub told_is : (i : ℕ) (c : CountedTable) (name : List ℕ) (n : Numbers) (exact bounded : Found) → name ≡ slice_index_or (table_names c.table) i [] → slice_get (map plain c.filed.rows) i ≡ Some n → slice_get (filed_findings (in_exact_steps c.filed)) i ≡ Some exact → slice_get (filed_findings c.filed) i ≡ Some bounded → counted_texts (i + 1) name n exact bounded ≡ counts_told_at i c
+pub told_is : (i : ℕ) (c : CountedTable) (name : List ℕ) (n : Numbers) (exact bounded : Found)
+    → name ≡ slice_index_or (table_names c.table) i [] → slice_get (map plain c.filed.rows) i ≡ Some n
+    → slice_get (filed_findings (in_exact_steps c.filed)) i ≡ Some exact
+    → slice_get (filed_findings c.filed) i ≡ Some bounded
+    → counted_texts (i + 1) name n exact bounded ≡ counts_told_at i c
 told_is i c name n exact bounded named row one other =
     ap (λ x. counts_told (i + 1) x (Some n) (Some exact) (Some bounded)) named
-    ∙ sym (ap (λ o. counts_told (i + 1) (slice_index_or (table_names c.table) i []) o (slice_get (filed_findings (in_exact_steps c.filed)) i) (slice_get (filed_findings c.filed) i)) row
+    ∙ sym (ap (λ o.
+    counts_told (i + 1) (slice_index_or (table_names c.table) i []) o
+    (slice_get (filed_findings (in_exact_steps c.filed)) i) (slice_get (filed_findings c.filed) i)) row
     ∙ ap₂ (λ o p. counts_told (i + 1) (slice_index_or (table_names c.table) i []) (Some n) o p) one other)
 
 -- one row more is told behind those before
-pub told_next : (i : ℕ) (c : CountedTable) (rows new : Rows) (cells : Vec Cell Global) → shown_rows rows ≡ first_told i c → map shown_of cells.items ≡ counts_told_at i c → new ≡ rows ++ cells ∷ [] → shown_rows new ≡ first_told (i + 1) c
+pub told_next : (i : ℕ) (c : CountedTable) (rows new : Rows) (cells : Vec Cell Global)
+    → shown_rows rows ≡ first_told i c → map shown_of cells.items ≡ counts_told_at i c → new ≡ rows ++ cells ∷ []
+    → shown_rows new ≡ first_told (i + 1) c
 told_next i c rows new cells before told grown =
     let up : i + 1 ≡ suc i = omega arith in
     ap shown_rows grown

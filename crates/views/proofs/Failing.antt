@@ -11,14 +11,17 @@ keeps_same None = tt
 keeps_same (Some xs) = refl
 
 -- a view whose trouble is not one of writing fails before anything is written
-pub fails_before : (IsView : List ℕ → Type 0) (of : Subject) (old : Option (List ℕ)) (t : Trouble) → IsTroubleOf of t → is_output t ≡ false → Fails IsView of old old t
+pub fails_before : (IsView : List ℕ → Type 0) (of : Subject) (old : Option (List ℕ)) (t : Trouble) → IsTroubleOf of t
+    → is_output t ≡ false → Fails IsView of old old t
 fails_before IsView of old t is before = record {
   before = λ _. (is, keeps_same old);
   amid = λ amid. cc (before, amid);
 }
 
 -- or where its bytes are written
-pub fails_amid : (IsView : List ℕ → Type 0) (of : Subject) (old new : Option (List ℕ)) (bytes : List ℕ) → IsView bytes → (r : Result (Unit {0}) Trouble) → IfErr r (λ t. is_output t ≡ true) → OnErr r ((n : ℕ) × (n ≤ length bytes) × Appends old new (take n bytes)) → IfErr r (λ t. Fails IsView of old new t)
+pub fails_amid : (IsView : List ℕ → Type 0) (of : Subject) (old new : Option (List ℕ)) (bytes : List ℕ) → IsView bytes
+    → (r : Result (Unit {0}) Trouble) → IfErr r (λ t. is_output t ≡ true)
+    → OnErr r ((n : ℕ) × (n ≤ length bytes) × Appends old new (take n bytes)) → IfErr r (λ t. Fails IsView of old new t)
 fails_amid IsView of old new bytes is (Ok u) output begun = tt
 fails_amid IsView of old new bytes is (Err t) output begun = record {
   before = λ before. cc (before, output);
@@ -26,6 +29,7 @@ fails_amid IsView of old new bytes is (Err t) output begun = record {
 }
 
 -- or all of them are
-pub writes_all : (IsView : List ℕ → Type 0) (old new : Option (List ℕ)) (bytes : List ℕ) → IsView bytes → (r : Result (Unit {0}) Trouble) → OnOk r (Appends old new bytes) → OnOk r (Writes IsView old new)
+pub writes_all : (IsView : List ℕ → Type 0) (old new : Option (List ℕ)) (bytes : List ℕ) → IsView bytes
+    → (r : Result (Unit {0}) Trouble) → OnOk r (Appends old new bytes) → OnOk r (Writes IsView old new)
 writes_all IsView old new bytes is (Ok u) written = (bytes, is, written)
 writes_all IsView old new bytes is (Err t) written = tt

@@ -1,5 +1,6 @@
 -- What is told of a table that is refused.
-use Rattle.std.proofs.Common.{◌≡◌, ℕ, ◌<◌, ◌≤◌, Bool, false, List, [], ◌∷◌, ◌++◌, length, Option, refl, sym, ap, ◌∙◌, arith, subst}
+use Rattle.std.proofs.Common.{◌≡◌, ℕ, ◌<◌, ◌≤◌, Bool, false, List, [], ◌∷◌, ◌++◌, length, Option, refl, sym, ap, ◌∙◌}
+use Rattle.std.proofs.Common.{arith, subst}
 use Rattle.std.specs.Prelude.{◌⊎◌}
 use Rattle.std.proofs.lemmas.Bool.{le-ltb}
 use Rattle.std.proofs.lemmas.List.{length-map}
@@ -22,12 +23,14 @@ use Rattle.views.specs.Counted.{IsCountOf, TellsRank}
 use Rattle.views.specs.Troubles.{IsTroubleOf, TroubleTells, TellsFirst, is_output, of_row, of_table}
 
 -- the first refusal of a table that was read is a trouble of it
-pub table_refused : (held : Option (List ℕ)) (h : Option FrameNumbers) (b : Family × ℕ) (table : TaskTable) (t : Trouble) → ReadsAll held table → TellsFirst h b table t → IsTroubleOf (of_table held h b) t
+pub table_refused : (held : Option (List ℕ)) (h : Option FrameNumbers) (b : Family × ℕ) (table : TaskTable)
+    (t : Trouble) → ReadsAll held table → TellsFirst h b table t → IsTroubleOf (of_table held h b) t
 table_refused held h b table (trouble.Table e) read refused = absurd refused.told
 table_refused held h b table (trouble.Row m) read refused = record { table = table; read = read; refused = refused }
 table_refused held h b table trouble.Frame read refused = record { table = table; read = read; refused = refused }
 table_refused held h b table trouble.NoFrame read refused = record { table = table; read = read; refused = refused }
-table_refused held h b table (trouble.Accuracy family) read refused = record { table = table; read = read; refused = refused }
+table_refused held h b table (trouble.Accuracy family) read refused =
+    record { table = table; read = read; refused = refused }
 table_refused held h b table (trouble.Rank n) read refused = absurd refused.told
 table_refused held h b table (trouble.Damaged d) read refused = absurd refused.told
 table_refused held h b table (trouble.Different d) read refused = absurd refused.told
@@ -36,7 +39,8 @@ table_refused held h b table (trouble.Output e) read refused = absurd refused.to
 table_refused held h b table (trouble.Memory e) read refused = record { table = table; read = read; refused = refused }
 
 -- a trouble of a table is one of the row of a rank
-pub row_refused : (rank : ℕ) (held : Option (List ℕ)) (h : Option FrameNumbers) (b : Family × ℕ) (t : Trouble) → IsTroubleOf (of_table held h b) t → IsTroubleOf (of_row rank held h b) t
+pub row_refused : (rank : ℕ) (held : Option (List ℕ)) (h : Option FrameNumbers) (b : Family × ℕ) (t : Trouble)
+    → IsTroubleOf (of_table held h b) t → IsTroubleOf (of_row rank held h b) t
 row_refused rank held h b (trouble.Table e) is = is
 row_refused rank held h b (trouble.Row m) is = is
 row_refused rank held h b trouble.Frame is = is
@@ -50,7 +54,8 @@ row_refused rank held h b (trouble.Output e) is = is
 row_refused rank held h b (trouble.Memory e) is = is
 
 -- what is told of a refusal is no failure of the output
-pub told_no_output : (h : Option FrameNumbers) (a : Family) (r : Refusal) (t : Trouble) → TroubleTells h a r t → is_output t ≡ false
+pub told_no_output : (h : Option FrameNumbers) (a : Family) (r : Refusal) (t : Trouble) → TroubleTells h a r t
+    → is_output t ≡ false
 told_no_output h a r (trouble.Table e) told = refl
 told_no_output h a r (trouble.Row m) told = refl
 told_no_output h a r trouble.Frame told = refl
@@ -64,10 +69,19 @@ told_no_output h a r (trouble.Output e) told = absurd told
 told_no_output h a r (trouble.Memory e) told = refl
 
 -- a table that was counted and has no row of a rank lacks it
-pub rank_lacking : (rank : ℕ) (held : Option (List ℕ)) (h : Option FrameNumbers) (b : Family × ℕ) (table : TaskTable) (f : Filed) (t : Trouble) → ReadsAll held table → IsCountOf h b table f → TellsRank rank f t → IsTroubleOf (of_row rank held h b) t
+pub rank_lacking : (rank : ℕ) (held : Option (List ℕ)) (h : Option FrameNumbers) (b : Family × ℕ) (table : TaskTable)
+    (f : Filed) (t : Trouble) → ReadsAll held table → IsCountOf h b table f → TellsRank rank f t
+    → IsTroubleOf (of_row rank held h b) t
 rank_lacking rank held h b table f (trouble.Rank n) read count told =
     let same : length f.rows ≡ length (table_numbers table) = sym (length-map f.rows plain) ∙ ap length count.tasks in
-    record { table = table; read = read; passed = count.passed; count = told.0 ∙ same; lacks = subst (λ n. (rank ≡ 0) ⊎ (n < rank)) (sym told.0) told.1 }
+    record {
+      table = table;
+      read = read;
+      passed = count.passed;
+      count = told.0 ∙ same;
+      lacks =
+          subst (λ n. (rank ≡ 0) ⊎ (n < rank)) (sym told.0) told.1;
+    }
 rank_lacking rank held h b table f (trouble.Table e) read count told = absurd told
 rank_lacking rank held h b table f (trouble.Row m) read count told = absurd told
 rank_lacking rank held h b table f trouble.Frame read count told = absurd told
@@ -80,12 +94,16 @@ rank_lacking rank held h b table f (trouble.Output e) read count told = absurd t
 rank_lacking rank held h b table f (trouble.Memory e) read count told = absurd told
 
 -- a last check that passes leaves what the others say
-last_passes : {A : Type 0} (cs : List Check) (wrong : Bool) (n : Refusal) (at : ℕ) (y : A) → wrong ≡ false → checked (cs ++ check wrong n at ∷ []) y ≡ checked cs y
+last_passes : {A : Type 0} (cs : List Check) (wrong : Bool) (n : Refusal) (at : ℕ) (y : A) → wrong ≡ false
+    → checked (cs ++ check wrong n at ∷ []) y ≡ checked cs y
 last_passes [] wrong n at y right = passes_on wrong n at (checked [] y) right
 last_passes (c ∷ cs) wrong n at y right = ap (λ o. refuses_at c.refusal c.at o) (last_passes cs wrong n at y right)
 
 -- where a buffer has room for every sheet, a sheet is refused as its table is
-pub sheet_refused : (frame : Option FrameNumbers) (bound : Family × ℕ) (ns : List Numbers) (size : ℕ) (n : Refusal) (at y : ℕ) → size ≡ 551 → length ns ≤ 32 → refuses n at ≡ checked (sheet_checks frame bound ns size) y → refuses n at ≡ first_refusal (filing_checks frame bound ns)
+pub sheet_refused : (frame : Option FrameNumbers) (bound : Family × ℕ) (ns : List Numbers) (size : ℕ) (n : Refusal)
+    (at y : ℕ) → size ≡ 551 → length ns ≤ 32 → refuses n at ≡ checked (sheet_checks frame bound ns size) y
+    → refuses n at ≡ first_refusal (filing_checks frame bound ns)
 sheet_refused frame bound ns size n at y room few refused =
     let fits : sheet_length ns ≤ size = omega (arith, room, few) in
-    refuses_any (filing_checks frame bound ns) n at y (refused ∙ last_passes (filing_checks frame bound ns) _ ShortBuffer 0 y (le-ltb size (sheet_length ns) fits)) tt
+    refuses_any (filing_checks frame bound ns) n at y
+    (refused ∙ last_passes (filing_checks frame bound ns) _ ShortBuffer 0 y (le-ltb size (sheet_length ns) fits)) tt

@@ -74,7 +74,8 @@ flaw_refused ns places r at y few room refused =
     ∙ passes_on _ FullTable 0 _ (le-ltb 32 (length ns) few)
     ∙ passes_on _ ShortList 0 (checked flaws y) (le-ltb places (length ns) fits)) tt
 
--- where all response times of a table are put in front into a list, the text that tells those there is that of the table
+-- where all response times of a table are put in front into a list, the text that tells those there is that of the
+-- table
 pub responses_text : (table : TaskTable) (ns : List Numbers) (old new : List (Option ℕ)) (n : ℕ) (text : List ℕ)
     → ns ≡ table_numbers table → n ≡ length ns → map plain (rows_of ns) ≡ ns
     → new ≡ written old 0 (responses_of (rows_of ns)) → TableResponds (rows_of ns)

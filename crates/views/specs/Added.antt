@@ -77,7 +77,8 @@ Adds true name bytes old new =
     (c : Contents) × Fits bytes (gives c) × GrowBy (layout_of old) (IsLeafText name c) (leaf_records name c) old new
 Adds false name bytes old new =
     (refusal : Refusal) × (at : ℕ) × (around : List ℕ) × Fits bytes (refuses refusal at)
-    × GrowBy (layout_of old) (IsDamageLine name refusal at around) (damage_fields name (number refusal) (words refusal) at around ∷ []) old new
+    × GrowBy (layout_of old) (IsDamageLine name refusal at around)
+    (damage_fields name (number refusal) (words refusal) at around ∷ []) old new
 
 -- a leaf, or the damage of one, is added for all that a reader held
 pub record AddsHeld (is_leaf : Bool) (name : List ℕ) (held : Option (List ℕ)) (old new : Show) : Type 0 where

@@ -49,7 +49,8 @@ leaf_texts rank n f =
     decimal rank ∷ (four_fields n ++ rest_text f.rest ∷ number_text (response_of n f) ∷ decimal f.points ∷ [])
 
 -- a row that was counted twice as a person reads it: its rank, name and numbers, the first rest in exact steps, the
--- response and the slack, the first rest by the linear tail and how much later it is, and the points tested by each count
+-- response and the slack, the first rest by the linear tail and how much later it is, and the points tested by each
+-- count
 abbrev pub counted_texts : ℕ → List ℕ → Numbers → Found → Found → List (List ℕ)
 counted_texts rank name n exact bounded =
     decimal rank ∷ shown_text name ∷ (four_fields n
@@ -57,8 +58,8 @@ counted_texts rank name n exact bounded =
     ∷ rest_text bounded.rest ∷ number_text (gap exact.rest bounded.rest)
     ∷ decimal exact.points ∷ decimal bounded.points ∷ [])
 
--- what a program is told of a heading: the name of the leaf, no refusal, what bounds of its kind are called, the accuracy
--- where there is one bound of the kind for each, and the frame
+-- what a program is told of a heading: the name of the leaf, no refusal, what bounds of its kind are called, the
+-- accuracy where there is one bound of the kind for each, and the frame
 abbrev pub heading_record_fields : List ℕ → Heading → List (List ℕ)
 heading_record_fields name h =
     name ∷ [] ∷ [] ∷ [] ∷ []

@@ -20,7 +20,8 @@ use Rattle.bounds.specs.Families.{shown_bound}
 -- how much later the second of two first rests is than the first, with a minus where it is earlier; a dash where one is
 -- missing
 abbrev pub later_text : Option ℕ → Option ℕ → List ℕ
-later_text (Some one) (Some other) = if nat_le one other then decimal (other - one) else shown_text (codes "-" ++ decimal (one - other))
+later_text (Some one) (Some other) =
+    if nat_le one other then decimal (other - one) else shown_text (codes "-" ++ decimal (one - other))
 later_text (Some one) None = dash
 later_text None other = dash
 
@@ -40,8 +41,8 @@ compared_texts rank n one other =
     ∷ decimal one.points ∷ decimal other.points
     ∷ (if do_part one.rest other.rest then codes "part" else codes "same") ∷ [])
 
--- what is told of the rows of two leaves of one table: of each row by its rank, with what each leaf found of it; the first
--- has rank 1
+-- what is told of the rows of two leaves of one table: of each row by its rank, with what each leaf found of it; the
+-- first has rank 1
 abbrev pub compared_rows : Contents → Contents → List (List (List ℕ))
 compared_rows c d =
     let pairs = zip (told_of c) (told_of d) in
@@ -53,7 +54,8 @@ named_line mark name c = mark ++ (printable_text name ++ (codes ", " ++ (shown_b
 
 -- the line of the frame, with how many rows there are
 abbrev pub frame_line : Contents → List ℕ
-frame_line c = codes "frame " ++ (decimal c.heading.frame.ticks ++ (codes ", " ++ (decimal (length c.rows) ++ codes " rows\n")))
+frame_line c =
+    codes "frame " ++ (decimal c.heading.frame.ticks ++ (codes ", " ++ (decimal (length c.rows) ++ codes " rows\n")))
 
 -- the lines above: both leaves, and the frame
 abbrev pub compared_head : List ℕ → List ℕ → Contents → Contents → List ℕ

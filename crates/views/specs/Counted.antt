@@ -1,5 +1,6 @@
 -- A task table that was read and counted, and its leaves.
-use Rattle.std.specs.Prelude.{◌≡◌, ℕ, ◌<◌, ◌≤◌, ◌⊎◌, ◌-◌, List, [], ◌∷◌, ◌++◌, length, map, take, Some, Option, slice_index_or}
+use Rattle.std.specs.Prelude.{◌≡◌, ℕ, ◌<◌, ◌≤◌, ◌⊎◌, ◌-◌, List, [], ◌∷◌, ◌++◌, length, map, take, Some, Option}
+use Rattle.std.specs.Prelude.{slice_index_or}
 use Rattle.rows.specs.declared.frames.FrameNumbers.{FrameNumbers}
 use Rattle.rows.specs.Answers.{Passes}
 use Rattle.rows.specs.Judging.{plain, rows_of}

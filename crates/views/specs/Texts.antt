@@ -14,7 +14,8 @@ use Rattle.views.specs.Ranked.{shown_rows, told_rows}
 -- the line above a leaf: its name as it is seen, its bound, its frame, and how many rows it has
 abbrev pub leaf_head : List ℕ → Contents → List ℕ
 leaf_head name c =
-    printable_text name ++ (codes ": " ++ (shown_bound c.heading.bound ++ (codes ", frame " ++ (decimal c.heading.frame.ticks
+    printable_text name
+    ++ (codes ": " ++ (shown_bound c.heading.bound ++ (codes ", frame " ++ (decimal c.heading.frame.ticks
     ++ (codes ", " ++ (decimal (length c.rows) ++ codes " rows\n"))))))
 
 -- the columns below it

@@ -1,5 +1,6 @@
 -- What each trouble means.
-use Rattle.std.specs.Prelude.{◌≡◌, ◌≢◌, ℕ, ◌<◌, ◌≤◌, ◌⊎◌, Bool, true, false, List, length, take, is_some, Some, None, Option, string_bytes}
+use Rattle.std.specs.Prelude.{◌≡◌, ◌≢◌, ℕ, ◌<◌, ◌≤◌, ◌⊎◌, Bool, true, false, List, length, take, is_some, Some, None}
+use Rattle.std.specs.Prelude.{Option, string_bytes}
 use Rattle.std.specs.Io.KnownBytes.{Appends, Keeps}
 use Rattle.std.specs.IoError.{error_kind}
 use Rattle.std.specs.declared.io.ErrorKind.TheVariants.{Interrupted}
@@ -55,20 +56,23 @@ TellsFlaw table _ = ⊥
 
 -- the numbers of a table are refused, on the frame and by the bound that are named, and the first of the refusals is
 -- told
-pub record TellsFirst (frame : Option FrameNumbers) (bound : Family × ℕ) (table : TaskTable) (t : Trouble) : Type 0 where
+pub record TellsFirst (frame : Option FrameNumbers) (bound : Family × ℕ) (table : TaskTable)
+    (t : Trouble) : Type 0 where
   pub refusal : Refusal
   pub at : ℕ
   pub first : refuses refusal at ≡ first_refusal (filing_checks frame bound (table_numbers table))
   pub told : TroubleTells frame bound.0 refusal t
 
 -- a trouble tells the first refusal of the table that was read
-pub record TellsRefusal (held : Option (List ℕ)) (frame : Option FrameNumbers) (bound : Family × ℕ) (t : Trouble) : Type 0 where
+pub record TellsRefusal (held : Option (List ℕ)) (frame : Option FrameNumbers) (bound : Family × ℕ)
+    (t : Trouble) : Type 0 where
   pub table : TaskTable
   pub read : ReadsAll held table
   pub refused : TellsFirst frame bound table t
 
 -- a table that was read passes its checks and has so many rows, and none of this rank
-pub record LacksRank (held : Option (List ℕ)) (frame : Option FrameNumbers) (bound : Family × ℕ) (rank rows : ℕ) : Type 0 where
+pub record LacksRank (held : Option (List ℕ)) (frame : Option FrameNumbers) (bound : Family × ℕ)
+    (rank rows : ℕ) : Type 0 where
   pub table : TaskTable
   pub read : ReadsAll held table
   pub passed : Passes (filing_checks frame bound (table_numbers table))
@@ -119,7 +123,8 @@ IsTroubleOf (of_responses held) (trouble.Table e) = is_misread e ≡ true → Re
 IsTroubleOf (of_responses held) (trouble.Row m) = IsFlawFor held m
 IsTroubleOf (of_responses held) (trouble.Memory e) = Unit {0}
 IsTroubleOf (of_responses held) _ = ⊥
-IsTroubleOf (of_leaves a one b other) (trouble.Damaged d) = IsDamaged a one d ⊎ (HeldLeaf one true × IsDamaged b other d)
+IsTroubleOf (of_leaves a one b other) (trouble.Damaged d) =
+    IsDamaged a one d ⊎ (HeldLeaf one true × IsDamaged b other d)
 IsTroubleOf (of_leaves a one b other) (trouble.Different d) = HeldBoth (Differ d) one other
 IsTroubleOf (of_leaves a one b other) (trouble.Input e) = error_kind e ≢ Interrupted
 IsTroubleOf (of_leaves a one b other) (trouble.Memory e) = Unit {0}

@@ -6,7 +6,8 @@ ghost use Rattle.leaves.specs.Contents.{Contents};
 ghost use Rattle.reading.specs.Leaves.{Holds};
 ghost use Rattle.grids.specs.Shown.{shown_of};
 ghost use Rattle.grids.specs.CsvFields.{headings_of};
-ghost use Rattle.views.specs.Compared.{AreCompared, IsComparison, IsComparisonOf, compared_columns, compared_head, compared_rows, compared_texts, do_part, frame_line, later_text, named_line};
+ghost use Rattle.views.specs.Compared.{AreCompared, IsComparison, IsComparisonOf, compared_columns, compared_head};
+ghost use Rattle.views.specs.Compared.{compared_rows, compared_texts, do_part, frame_line, later_text, named_line};
 ghost use Rattle.views.specs.Leaves.{name_among};
 ghost use Rattle.views.specs.Ranked.{shown_rows};
 ghost use Rattle.views.specs.Troubles.{Fails, IsTroubleOf, TellsDamage, TellsDifference, Writes, of_leaves};
@@ -52,11 +53,14 @@ pub fn compare<A: Read, B: Read, W: Write>(
     writer: &mut W,
 ) -> Result<(), Trouble>
     ensures written { OnOk result (Writes
-        (IsComparisonOf (name_among names.entry 0) (A.remaining first.old) (name_among names.entry 1) (B.remaining second.old))
+        (IsComparisonOf (name_among names.entry 0) (A.remaining first.old) (name_among names.entry 1)
+        (B.remaining second.old))
         (W.contents writer.old) (W.contents writer.new)) }
     ensures failed { IfErr result (Fails
-        (IsComparisonOf (name_among names.entry 0) (A.remaining first.old) (name_among names.entry 1) (B.remaining second.old))
-        (of_leaves (name_among names.entry 0) (A.remaining first.old) (name_among names.entry 1) (B.remaining second.old))
+        (IsComparisonOf (name_among names.entry 0) (A.remaining first.old) (name_among names.entry 1)
+        (B.remaining second.old))
+        (of_leaves (name_among names.entry 0) (A.remaining first.old) (name_among names.entry 1)
+        (B.remaining second.old))
         (W.contents writer.old) (W.contents writer.new)) }
 {
     match comparison(alloc, names, first, second) {
@@ -75,7 +79,8 @@ fn comparison<A: Read, B: Read>(
     ensures text { IfOk result (λ text. IsComparisonOf (name_among names.entry 0) (A.remaining first.old)
         (name_among names.entry 1) (B.remaining second.old) text.items) }
     ensures failed { IfErr result (IsTroubleOf
-        (of_leaves (name_among names.entry 0) (A.remaining first.old) (name_among names.entry 1) (B.remaining second.old))) }
+        (of_leaves (name_among names.entry 0) (A.remaining first.old) (name_among names.entry 1)
+        (B.remaining second.old))) }
 {
     let first_bytes = read_whole(alloc, first)?;
     let second_bytes = read_whole(alloc, second)?;

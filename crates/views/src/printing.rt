@@ -1,5 +1,6 @@
 // A table with both counts side by side, as text.
-ghost use Rattle.std.specs.Prelude.{◌≡◌, ◌==◌, ◌<◌, ◌++◌, ◌∷◌, [], codes, length, map, not, string_bytes, IfOk, OnOk, IfErr};
+ghost use Rattle.std.specs.Prelude.{◌≡◌, ◌==◌, ◌<◌, ◌++◌, ◌∷◌, [], codes, length, map, not, string_bytes, IfOk, OnOk};
+ghost use Rattle.std.specs.Prelude.{IfErr};
 ghost use Rattle.rows.specs.Judging.{plain};
 ghost use Rattle.rows.specs.Found.{tells, verdict_rest};
 ghost use Rattle.grids.specs.Shown.{shown_of};
@@ -60,7 +61,8 @@ impl Counted {
     // The rows with both counts, as cells.
     fn table_of_counts(&self, alloc: Global) -> Result<Grid, AllocError>
         ensures headings { IfOk result (λ grid. headings_of grid.headings.items ≡ count_columns self.now.filed.bound.0) }
-        ensures rows { IfOk result (λ grid. shown_rows grid.rows.items ≡ first_told (length self.now.filed.rows) self.now) }
+        ensures rows { IfOk result
+            (λ grid. shown_rows grid.rows.items ≡ first_told (length self.now.filed.rows) self.now) }
     {
         let (family, _) = self.bounded().bound().plain();
         let mut grid = grid_of(alloc, family)?;

@@ -42,7 +42,8 @@ pub(crate) fn damage_record(
     damage: &Damage,
 ) -> Result<Vec<Cell>, AllocError>
     ensures { IfOk result (λ cells. map field_of cells.items
-        ≡ damage_fields name.now (number damage.now.fault.refusal) (words damage.now.fault.refusal) damage.now.fault.at (string_bytes damage.now.around)) }
+        ≡ damage_fields name.now (number damage.now.fault.refusal) (words damage.now.fault.refusal) damage.now.fault.at
+        (string_bytes damage.now.around)) }
 {
     let refusal = damage.fault.refusal;
     Ok(vec![in alloc;

@@ -4,7 +4,8 @@ ghost use Rattle.grids.specs.CsvFields.{headings_of};
 ghost use Rattle.grids.specs.Shown.{shown_of};
 ghost use Rattle.task_tables.specs.Tables.{table_names, table_numbers};
 ghost use Rattle.views.specs.Ranked.{shown_rows};
-ghost use Rattle.views.specs.Responded.{IsResponsesFor, IsResponsesText, TellsResponses, met_line, response_columns, response_texts, responses_told};
+ghost use Rattle.views.specs.Responded.{IsResponsesFor, IsResponsesText, TellsResponses, met_line, response_columns};
+ghost use Rattle.views.specs.Responded.{response_texts, responses_told};
 ghost use Rattle.views.specs.Troubles.{Fails, TellsFlaw, Writes, of_responses};
 
 use crate::explained::explained;

@@ -4,7 +4,8 @@ ghost use Rattle.rows.specs.Refusals.{number, words};
 ghost use Rattle.leaves.specs.Contents.{Contents};
 ghost use Rattle.reading.specs.Leaves.{Holds};
 ghost use Rattle.grids.specs.CsvFields.{headings_of};
-ghost use Rattle.views.specs.Added.{Adds, AddsHeld, GrowBy, GrowsRecords, GrowsText, IsCsvOf, IsDamageLine, IsShown, KeepsSetup, field_names, layout_of, shown_headings, shown_records, text_added};
+ghost use Rattle.views.specs.Added.{Adds, AddsHeld, GrowBy, GrowsRecords, GrowsText, IsCsvOf, IsDamageLine, IsShown};
+ghost use Rattle.views.specs.Added.{KeepsSetup, field_names, layout_of, shown_headings, shown_records, text_added};
 ghost use Rattle.views.specs.Cells.{damage_fields, leaf_texts, record_fields};
 ghost use Rattle.views.specs.Leaves.{HeldLeaf, IsLeaf};
 ghost use Rattle.views.specs.Ranked.{field_rows, leaf_records, shown_rows, told_rows};
@@ -117,7 +118,8 @@ impl Show {
         ensures setup { KeepsSetup self.old self.new }
         ensures added { OnOk result (GrowBy (layout_of self.old)
             (IsDamageLine name.now damage.now.fault.refusal damage.now.fault.at (string_bytes damage.now.around))
-            (damage_fields name.now (number damage.now.fault.refusal) (words damage.now.fault.refusal) damage.now.fault.at (string_bytes damage.now.around) ∷ [])
+            (damage_fields name.now (number damage.now.fault.refusal)
+            (words damage.now.fault.refusal) damage.now.fault.at (string_bytes damage.now.around) ∷ [])
             self.old self.new) }
     {
         match self.layout {
@@ -133,7 +135,8 @@ impl Show {
     fn add_line(&mut self, damage: &Damage) -> Result<(), AllocError>
         ensures setup { KeepsSetup self.old self.new }
         ensures added { OnOk result (GrowsText
-            (IsDamageLine (string_bytes damage.now.name) damage.now.fault.refusal damage.now.fault.at (string_bytes damage.now.around))
+            (IsDamageLine (string_bytes damage.now.name) damage.now.fault.refusal damage.now.fault.at
+            (string_bytes damage.now.around))
             self.old self.new) }
     {
         let line = format!(in self.alloc; "{damage}\n")?;
@@ -177,7 +180,8 @@ impl Show {
 
     /// Writes all that was added, and flushes the writer.
     pub fn write<W: Write>(&self, writer: &mut W) -> Result<(), Trouble>
-        ensures written { OnOk result (Writes (IsShown (layout_of self.now) self.now) (W.contents writer.old) (W.contents writer.new)) }
+        ensures written { OnOk result
+            (Writes (IsShown (layout_of self.now) self.now) (W.contents writer.old) (W.contents writer.new)) }
         ensures failed { IfErr result (Fails (IsShown (layout_of self.now) self.now) of_nothing
             (W.contents writer.old) (W.contents writer.new)) }
     {

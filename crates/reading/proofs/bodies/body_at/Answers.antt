@@ -26,5 +26,8 @@ returns-clause-body c = λ es all same.
     let rank : c.args.rank ≡ suc i = omega arith in
     let size = c.args.size in
     let part = c.in_ok-get.field-0.now in
-    let from : part ≡ drop ((1 + size) * i) c.args.entries.now = c.in_ok-get.ensures.lookup.0.2 ∙ take_rest c.args.entries.now c.in_ok-from.from ∙ ap (λ n. drop n c.args.entries.now) (omega arith) in
-    body_found size c.args.entries.now i es all same part from c.get-2.result c.get-2.ensures.lookup ∙ ap (λ n. option_map body_of (at_rank n es)) (sym rank)
+    let from : part ≡ drop ((1 + size) * i) c.args.entries.now =
+    c.in_ok-get.ensures.lookup.0.2 ∙ take_rest c.args.entries.now c.in_ok-from.from
+    ∙ ap (λ n. drop n c.args.entries.now) (omega arith) in
+    body_found size c.args.entries.now i es all same part from c.get-2.result c.get-2.ensures.lookup
+    ∙ ap (λ n. option_map body_of (at_rank n es)) (sym rank)

@@ -9,5 +9,8 @@ pub returns-clause-taken : goal.returns-clause-taken
 returns-clause-taken c =
     let n = c.row_fields.result in
     let row = c.in_ok-row.row in
-    let judged = subst (λ h. gives (plain row) ≡ checked (flaw_checks (frame_flaws h) n c.args.at) n) c.frame.ensures c.in_ok-row.ensures in
-    row_taken c.args.body.now row_size c.args.heading row n c.args.rows c.args.at (omega arith) c.row_fields.ensures.same judged
+    let judged = subst
+    (λ h. gives (plain row) ≡ checked (flaw_checks (frame_flaws h) n c.args.at) n) c.frame.ensures
+    c.in_ok-row.ensures in
+    row_taken c.args.body.now row_size c.args.heading row n c.args.rows c.args.at
+    (omega arith) c.row_fields.ensures.same judged

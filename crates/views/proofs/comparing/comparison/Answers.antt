@@ -21,9 +21,13 @@ returns-clause-text g c =
     let r = c.compare_bytes.result in
     let a = (slice_index_or c.args.names 0 no_name).now in
     let b = (slice_index_or c.args.names 1 no_name).now in
-    subst (λ n. IfOk r (λ text. IsComparisonOf n h (name_among c.args.names 1) i text.items)) (name_at c.args.names 0 no_name refl)
+    subst (λ n. IfOk r (λ text. IsComparisonOf n h (name_among c.args.names 1) i text.items))
+    (name_at c.args.names 0 no_name refl)
     (subst (λ n. IfOk r (λ text. IsComparisonOf a h n i text.items)) (name_at c.args.names 1 no_name refl)
-    (IfOk-weaker r (λ text. IsComparisonOf a (Some c.deref.result.now) b (Some c.deref-2.result.now) text.items) (λ text. IsComparisonOf a h b i text.items) (λ text. both_held (AreCompared a b text.items) h i c.deref.result.now c.deref-2.result.now one other) c.compare_bytes.ensures.text))
+    (IfOk-weaker r (λ text. IsComparisonOf a (Some c.deref.result.now) b (Some c.deref-2.result.now) text.items)
+    (λ text. IsComparisonOf a h b i text.items)
+    (λ text. both_held (AreCompared a b text.items) h i c.deref.result.now c.deref-2.result.now one other)
+    c.compare_bytes.ensures.text))
 
 pub returns-clause-failed : goal.returns-clause-failed
 returns-clause-failed g c =
@@ -34,6 +38,9 @@ returns-clause-failed g c =
     let r = c.compare_bytes.result in
     let a = (slice_index_or c.args.names 0 no_name).now in
     let b = (slice_index_or c.args.names 1 no_name).now in
-    subst (λ n. IfErr r (IsTroubleOf (of_leaves n h (name_among c.args.names 1) i))) (name_at c.args.names 0 no_name refl)
+    subst (λ n. IfErr r (IsTroubleOf (of_leaves n h (name_among c.args.names 1) i)))
+    (name_at c.args.names 0 no_name refl)
     (subst (λ n. IfErr r (IsTroubleOf (of_leaves a h n i))) (name_at c.args.names 1 no_name refl)
-    (IfErr-weaker r (IsTroubleOf (of_leaves a (Some c.deref.result.now) b (Some c.deref-2.result.now))) (IsTroubleOf (of_leaves a h b i)) (λ t. trouble_held a b h i c.deref.result.now c.deref-2.result.now t one other) c.compare_bytes.ensures.failed))
+    (IfErr-weaker r (IsTroubleOf (of_leaves a (Some c.deref.result.now) b (Some c.deref-2.result.now)))
+    (IsTroubleOf (of_leaves a h b i))
+    (λ t. trouble_held a b h i c.deref.result.now c.deref-2.result.now t one other) c.compare_bytes.ensures.failed))

@@ -8,7 +8,8 @@ use Rattle.views.proofs.counted.count_read.Goals as goal
 
 pub returns-in-Ok-clause-counted : goal.returns-in-Ok-clause-counted
 returns-in-Ok-clause-counted g c =
-    counted_is c.args.how.frame (c.args.how.family, c.args.how.accuracy) c.args.table c.numbers.result.now c.in-Ok.bounded
+    counted_is c.args.how.frame
+    (c.args.how.family, c.args.how.accuracy) c.args.table c.numbers.result.now c.in-Ok.bounded
     c.numbers.ensures.numbers c.in-Ok.ensures.answered c.in-Ok.ensures.rows
 
 pub returns-in-Err-clause-refused : goal.returns-in-Err-clause-refused
@@ -20,6 +21,7 @@ returns-in-Err-clause-refused g c =
     record {
       refusal = e.refusal;
       at = e.at;
-      first = subst (λ ns. refuses e.refusal e.at ≡ first_refusal (filing_checks h b ns)) c.numbers.ensures.numbers first;
+      first = subst
+          (λ ns. refuses e.refusal e.at ≡ first_refusal (filing_checks h b ns)) c.numbers.ensures.numbers first;
       told = c.trouble.ensures;
     }

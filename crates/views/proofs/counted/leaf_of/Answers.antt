@@ -11,7 +11,8 @@ filed_in-requires c =
 pub returns : goal.returns
 returns c =
     let (contents, survey, put) = c.file-filed.ensures in
-    let fits = put_fits contents _ c.file-filed.new.buffer c.file-filed.result survey.lawful (search rules) (search rules) put in
+    let fits = put_fits contents _ c.file-filed.new.buffer c.file-filed.result survey.lawful (search rules)
+    (search rules) put in
     IfOk-weaker c.filed_in.result _ _ (λ bytes copied. record {
       contents = contents;
       survey = survey;

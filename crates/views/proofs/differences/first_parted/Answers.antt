@@ -25,7 +25,8 @@ returns-then-ne-clause-first c = λ x d holds other frames even.
       parted_at x d holds.lawful other.lawful even from c.loop-i.i-iterator c.next.new.self c.loop-i.yielded
           (both_give x d from one two begins) c.loop-i.yielded_by c.loop-i.invariant
           (c.in-Some.i, ((c.in-Some.one, c.in-Some.field-0-1-0-1), (c.in-Some.other, c.in-Some.field-0-1-1-1)))
-          c.numbers-one.result c.numbers-other.result c.in-Some.ensures.steps c.numbers-one.ensures c.numbers-other.ensures parted,
+          c.numbers-one.result c.numbers-other.result c.in-Some.ensures.steps c.numbers-one.ensures
+          c.numbers-other.ensures parted,
     )
 
 pub returns-clause-none : goal.returns-clause-none
@@ -37,4 +38,5 @@ returns-clause-none c = λ x d holds other even.
     search (rules, c.rows_with_findings-2.ensures.told d other) in
     let begins : enumerate_count from ≡ 0 = search rules in
     all_same x d holds.lawful other.lawful even from c.loop-i.i-iterator c.next.new.self c.loop-i.yielded
-    (both_give x d from one two begins) c.loop-i.yielded_by c.loop-i.invariant c.next.result c.in-None.is c.next.ensures.steps
+    (both_give x d from one two begins) c.loop-i.yielded_by c.loop-i.invariant c.next.result c.in-None.is
+    c.next.ensures.steps

@@ -1,4 +1,5 @@
-use Rattle.std.proofs.Common.{◌≡◌, ◌+◌, ◌-◌, ◌<◌, ◌++◌, ◌∷◌, [], length, take, get_or, slice_index_or, sym, ap, ap₂, ◌∙◌, subst, arith}
+use Rattle.std.proofs.Common.{◌≡◌, ◌+◌, ◌-◌, ◌<◌, ◌++◌, ◌∷◌, [], length, take, get_or, slice_index_or, sym, ap, ap₂}
+use Rattle.std.proofs.Common.{◌∙◌, subst, arith}
 use Rattle.std.proofs.lemmas.List.{take_more}
 use Rattle.std.proofs.lemmas.Result.{IfOk-at_ok}
 use Rattle.rows.specs.Answers.{Passes}
@@ -21,10 +22,13 @@ unwrap-requires c =
     let row = c.index-rows-rank.result in
     let place = c.args.rank - 1 in
     let rows : c.rows.result.now ≡ f.rows = c.rows.ensures.answered ∙ ap (λ x. x.rows) c.bounded.ensures in
-    let judged : IsJudged (book f.frame f.rows) = subst (λ x. IsJudged (book x.frame x.rows)) c.bounded.ensures c.rows.ensures.judged in
+    let judged : IsJudged (book f.frame f.rows) =
+    subst (λ x. IsJudged (book x.frame x.rows)) c.bounded.ensures c.rows.ensures.judged in
     let stands : row ≡ get_or f.rows place row = c.index-rows-rank.is ∙ ap (λ rs. get_or rs place row) rows in
-    let asked : Passes (question_checks row (book f.frame (take place f.rows))) = can_ask (book f.frame f.rows) place row judged (omega (arith, c.requires.rank)) stands in
-    is_answered (λ d. tt) (question_checks row c.args.above.now) tt c.of.result (subst (λ b. Passes (question_checks row b)) (sym c.requires.above) asked) c.of.ensures.answered
+    let asked : Passes (question_checks row (book f.frame (take place f.rows))) =
+    can_ask (book f.frame f.rows) place row judged (omega (arith, c.requires.rank)) stands in
+    is_answered (λ d. tt) (question_checks row c.args.above.now) tt c.of.result
+    (subst (λ b. Passes (question_checks row b)) (sym c.requires.above) asked) c.of.ensures.answered
 
 pub returns : goal.returns
 returns c =
@@ -40,11 +44,16 @@ returns c =
     let drawn : drawn_row d ≡ row = IfOk-at_ok _ c.unwrap.ensures c.of.ensures.row in
     let exact = IfOk-at_ok _ c.unwrap.ensures c.of.ensures.exact in
     let bounded = IfOk-at_ok _ c.unwrap.ensures c.of.ensures.bounded in
-    let meant : meaning_of c.args.bound.now ≡ family_meaning f.bound.0 f.bound.1 = means_plain c.args.bound.now ∙ ap (λ b. family_meaning b.0 b.1) c.requires.bound in
+    let meant : meaning_of c.args.bound.now ≡ family_meaning f.bound.0 f.bound.1 =
+    means_plain c.args.bound.now ∙ ap (λ b. family_meaning b.0 b.1) c.requires.bound in
     record {
       ranked = shown.1;
-      named = shown.2 ∙ c.name.ensures.name (omega (arith, c.requires.rank)) ∙ ap (λ t. slice_index_or (table_names t) place []) c.task_table.ensures;
-      row = ap (λ n. take n f.rows) up ∙ take_more f.rows place row within ∙ ap (λ r. take place f.rows ++ r ∷ []) (sym stands ∙ sym drawn);
+      named = shown.2 ∙ c.name.ensures.name (omega (arith, c.requires.rank))
+          ∙ ap (λ t. slice_index_or (table_names t) place []) c.task_table.ensures;
+      row = ap (λ n. take n f.rows) up ∙ take_more f.rows place row within
+          ∙ ap (λ r. take place f.rows ++ r ∷ []) (sym stands ∙ sym drawn);
       exact = exact ∙ ap₂ (λ b r. load exact_steps b.frame.ticks r.work b.rows) c.requires.above (sym drawn);
-      bounded = bounded ∙ ap₂ (λ b r. load (meaning_of c.args.bound.now) b.frame.ticks r.work b.rows) c.requires.above (sym drawn) ∙ ap (λ m. load m f.frame.ticks (drawn_row d).work (take place f.rows)) meant;
+      bounded = bounded
+          ∙ ap₂ (λ b r. load (meaning_of c.args.bound.now) b.frame.ticks r.work b.rows) c.requires.above (sym drawn)
+          ∙ ap (λ m. load m f.frame.ticks (drawn_row d).work (take place f.rows)) meant;
     }

@@ -15,5 +15,9 @@ returns-in-Ok-clause-drawn g c =
 pub returns-in-Ok-clause-failed : goal.returns-in-Ok-clause-failed
 returns-in-Ok-clause-failed g c =
     IfErr-weaker c.plot_counted.result _ _ (λ t failed before.
-    let (tells, keeps) = failed before in
-    (rank_lacking c.args.rank (g.R.Read.remaining c.args.reader.now) c.args.how.frame (c.args.how.family, c.args.how.accuracy) c.in-Ok.counted.table c.in-Ok.counted.filed t c.in-Ok.ensures.read c.in-Ok.ensures.counted tells, keeps)) c.plot_counted.ensures.failed
+    let (tells, keeps) = failed before in (
+      rank_lacking c.args.rank (g.R.Read.remaining c.args.reader.now) c.args.how.frame
+          (c.args.how.family, c.args.how.accuracy) c.in-Ok.counted.table c.in-Ok.counted.filed t c.in-Ok.ensures.read
+          c.in-Ok.ensures.counted tells,
+      keeps,
+    )) c.plot_counted.ensures.failed

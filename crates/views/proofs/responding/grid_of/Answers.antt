@@ -16,7 +16,8 @@ loop-i-preserved c =
     record {
       headings = search rules;
       rows =
-          told_next names c.name.result.now i ns c.numbers.result.now os c.loop-i.grid.rows.items c.push.new.self.rows.items
+          told_next names c.name.result.now i ns c.numbers.result.now os c.loop-i.grid.rows.items
+          c.push.new.self.rows.items
           c.in_ok-row_of.field-0 _ _ stands within named c.numbers.ensures.numbers c.loop-i.invariant.rows
           c.in_ok-row_of.ensures c.in_ok-push.ensures.ok;
     }

@@ -16,10 +16,13 @@ returns-in-Ok-clause-sheet c =
     let bound : Family × ℕ = (c.args.how.family, c.args.how.accuracy) in
     let ns = c.numbers.result.now in
     let new = c.write_sheet.new.buffer in
-    let filled : (t : OnSheet) × IsTableOf (heading_numbers (frame_for frame ns) bound) ns t × (new ≡ written _ 0 (sheet_bytes t)) × FitsSheet (take c.in-Ok.length new) (gives t) = c.in-Ok.ensures.written in
+    let filled : (t : OnSheet) × IsTableOf (heading_numbers (frame_for frame ns) bound) ns t
+    × (new ≡ written _ 0 (sheet_bytes t)) × FitsSheet (take c.in-Ok.length new) (gives t) =
+    c.in-Ok.ensures.written in
     record {
       sheet = filled.0;
-      tasks = subst (λ xs. IsTableOf (heading_numbers (frame_for frame xs) bound) xs filled.0) c.numbers.ensures.numbers filled.1;
+      tasks = subst
+          (λ xs. IsTableOf (heading_numbers (frame_for frame xs) bound) xs filled.0) c.numbers.ensures.numbers filled.1;
       encoded = filled.3.1;
     }
 
@@ -27,10 +30,14 @@ pub returns-in-Err-clause-refused : goal.returns-in-Err-clause-refused
 returns-in-Err-clause-refused c =
     let e = c.in-Err.fault in
     let size : length c.args.buffer.now ≡ 551 = search rules in
-    let first = sheet_refused c.args.how.frame (c.args.how.family, c.args.how.accuracy) c.numbers.result.now (length c.args.buffer.now) e.refusal e.at _ size c.numbers.ensures.few c.in-Err.ensures.answered in
+    let first = sheet_refused c.args.how.frame (c.args.how.family, c.args.how.accuracy) c.numbers.result.now
+    (length c.args.buffer.now) e.refusal e.at _ size c.numbers.ensures.few c.in-Err.ensures.answered in
     record {
       refusal = e.refusal;
       at = e.at;
-      first = subst (λ ns. refuses e.refusal e.at ≡ first_refusal (filing_checks c.args.how.frame (c.args.how.family, c.args.how.accuracy) ns)) c.numbers.ensures.numbers first;
+      first = subst
+          (λ ns. refuses e.refusal e.at
+          ≡ first_refusal (filing_checks c.args.how.frame (c.args.how.family, c.args.how.accuracy) ns))
+          c.numbers.ensures.numbers first;
       told = c.trouble.ensures;
     }

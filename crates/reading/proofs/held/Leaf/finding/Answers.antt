@@ -8,9 +8,11 @@ use Rattle.reading.proofs.held.Leaf.finding.Goals as goal
 pub returns-in_err-body : goal.returns-in_err-body
 returns-in_err-body c = λ held holds.
     rw c.from_residual.ensures
-    (finding_told None c.args.rank held.findings holds.lawful.good (c.in_err-body.ensures.body (map entry held.findings) (findings_of_size held.findings) holds.findings))
+    (finding_told None c.args.rank held.findings holds.lawful.good
+    (c.in_err-body.ensures.body (map entry held.findings) (findings_of_size held.findings) holds.findings))
 
 pub returns : goal.returns
 returns c = λ held holds.
     ap (λ f. Some (tells f)) c.finding_fields.ensures.answered
-    ∙ finding_told (Some c.in_ok-body.body.now) c.args.rank held.findings holds.lawful.good (c.in_ok-body.ensures.body (map entry held.findings) (findings_of_size held.findings) holds.findings)
+    ∙ finding_told (Some c.in_ok-body.body.now) c.args.rank held.findings holds.lawful.good
+    (c.in_ok-body.ensures.body (map entry held.findings) (findings_of_size held.findings) holds.findings)

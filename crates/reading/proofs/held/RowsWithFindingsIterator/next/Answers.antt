@@ -11,4 +11,5 @@ returns-clause-steps c =
     let first = told c.in_ok-told.told in
     let rank : c.from.result + 1 ≡ suc n = omega (arith, c.from.ensures) in
     let next : n + 1 ≡ suc n = omega arith in
-    one_left n xs first (c.in_ok-told.ensures.answered ∙ ap (λ m. at_rank m xs) rank) ∙ ap (λ m. first ∷ drop m xs) (sym next)
+    one_left n xs first (c.in_ok-told.ensures.answered ∙ ap (λ m. at_rank m xs) rank)
+    ∙ ap (λ m. first ∷ drop m xs) (sym next)

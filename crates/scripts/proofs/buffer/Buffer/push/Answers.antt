@@ -11,4 +11,5 @@ returns-then-self-lt-ROOM c =
 pub returns-else-self-lt-ROOM : goal.returns-else-self-lt-ROOM
 returns-else-self-lt-ROOM c =
     let b = c.self.inside in
-    rw (← c.self.view_is) (full b.bytes b.count room c.args.byte c.self.invariant.places c.self.invariant.within (omega arith))
+    rw (← c.self.view_is)
+    (full b.bytes b.count room c.args.byte c.self.invariant.places c.self.invariant.within (omega arith))

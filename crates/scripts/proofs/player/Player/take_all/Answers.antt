@@ -14,7 +14,8 @@ returns-in_err-take-clause-begun g c =
     let p = progress_of l.self in
     let bytes = c.args.bytes.now in
     let b = get_or bytes l.byte-index 0 in
-    let more = Begun-longer _ _ (written_for_byte p b) (written_for_bytes (after_byte p b) (drop (l.byte-index + 1) bytes)) c.in_err-take.ensures.begun in
+    let more = Begun-longer _ _ (written_for_byte p b)
+    (written_for_bytes (after_byte p b) (drop (l.byte-index + 1) bytes)) c.in_err-take.ensures.begun in
     rw e.1 (subst (Begun _ _)
     (ap (λ x. l.invariant.front ++ x) (sym (written_next p bytes l.byte-index (omega arith))) ∙ l.invariant.written)
     (Begun-after _ _ _ l.invariant.front _ l.invariant.put more))

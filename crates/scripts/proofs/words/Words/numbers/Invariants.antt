@@ -8,5 +8,6 @@ abbrev pub invariant-loop-place : goal.invariant-loop-place
 invariant-loop-place l =
     record {
       room : length l.numbers ≡ 5;
-      read : numbers_of l.fields (words_of l.initial.self.0.now) ≡ joined (take l.place l.numbers) (numbers_of (drop l.place l.fields) (words_of l.self.0.now));
+      read : numbers_of l.fields (words_of l.initial.self.0.now)
+          ≡ joined (take l.place l.numbers) (numbers_of (drop l.place l.fields) (words_of l.self.0.now));
     }

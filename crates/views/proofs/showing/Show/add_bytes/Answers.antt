@@ -9,7 +9,8 @@ returns-in_ok-add_leaf-in-Ok-clause-leaf c =
 
 pub returns-in_ok-add_leaf-in-Ok-clause-added : goal.returns-in_ok-add_leaf-in-Ok-clause-added
 returns-in_ok-add_leaf-in-Ok-clause-added c =
-    leaf_adds c.args.name.now c.args.bytes.now c.args.self.now c.add_leaf.new.self c.in-Ok.leaf c.in-Ok.ensures.fits c.in_ok-add_leaf-in-Ok.ensures.added
+    leaf_adds c.args.name.now c.args.bytes.now c.args.self.now c.add_leaf.new.self c.in-Ok.leaf c.in-Ok.ensures.fits
+    c.in_ok-add_leaf-in-Ok.ensures.added
 
 pub returns-in_ok-add_damage-in-Err-clause-leaf : goal.returns-in_ok-add_damage-in-Err-clause-leaf
 returns-in_ok-add_damage-in-Err-clause-leaf c =
