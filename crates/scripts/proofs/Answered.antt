@@ -9,14 +9,14 @@ use Rattle.rows.specs.Answers.{Answer, Passes, check, checked}
 use Rattle.rows.specs.Books.{Book}
 use Rattle.bounds.specs.Meaning.{Meaning, is_accuracy}
 use Rattle.bounds.specs.declared.families.Family.{Family}
-use Rattle.bounds.specs.Families.{can_have, has_accuracies}
+use Rattle.bounds.specs.Families.{can_have, family_meaning, has_accuracies}
 use Rattle.admission.specs.declared.calls.Call.{Call}
 use Rattle.admission.specs.Books.{first_book, step}
 use Rattle.admission.specs.Runs.{answers_from}
 use Rattle.scripts.specs.declared.lines.ScriptLine.{ScriptLine}
 use Rattle.scripts.specs.Runs.{as_lines, script_output, CallsAreAnswered}
 use Rattle.scripts.specs.Scripts.{line_feed}
-use Rattle.scripts.specs.Sessions.{State, named, unnamed, named_meaning, begins_by, first_stage, output_from, heard}
+use Rattle.scripts.specs.Sessions.{State, named, unnamed, begins_by, first_stage, output_from, heard}
 use Rattle.scripts.specs.Sessions.{reaction_text, next_number}
 use Rattle.scripts.specs.Texts.{answer_text, bound_text, call_text, FitsBound, FitsLine}
 use Rattle.scripts.proofs.Plain.{Plain, Plain-bound, Plain-call, script_lines-plain}
@@ -79,5 +79,5 @@ calls_are_answered f k passes calls fits =
     let lines = map call_text calls in
     output_of (bound_text f k) calls (Plain-bound f k told) fits
     ∙ ap (first_read unnamed 1 lines) (bound_reads f k told)
-    ∙ ap (λ v. begun_by lines (checked (check (not v) BadAccuracy 0 ∷ []) (named_meaning f k))) fine
-    ∙ calls_answered (named_meaning f k) calls fits 1 first_book
+    ∙ ap (λ v. begun_by lines (checked (check (not v) BadAccuracy 0 ∷ []) (family_meaning f k))) fine
+    ∙ calls_answered (family_meaning f k) calls fits 1 first_book

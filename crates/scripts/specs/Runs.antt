@@ -4,14 +4,14 @@ use Rattle.std.specs.List.{AllByRecursion, flat_map}
 use Rattle.std.specs.Io.KnownBytes.{Appends, Consumes, IsAtEnd}
 use Rattle.rows.specs.Answers.{Passes}
 use Rattle.bounds.specs.declared.families.Family.{Family}
-use Rattle.bounds.specs.Families.{family_accuracy_checks}
+use Rattle.bounds.specs.Families.{family_accuracy_checks, family_meaning}
 use Rattle.bounds.specs.Meaning.{Meaning}
 use Rattle.admission.specs.declared.calls.Call.{Call}
 use Rattle.admission.specs.Runs.{answers_to}
 use Rattle.streams.specs.declared.failures.Failure.{Failure}
 use Rattle.streams.specs.declared.failures.Failure.TheVariants.{Reading, Writing}
 use Rattle.scripts.specs.Scripts.{line_feed, without_return, ended_lines, script_lines}
-use Rattle.scripts.specs.Sessions.{first_stage, named_meaning, output_from}
+use Rattle.scripts.specs.Sessions.{first_stage, output_from}
 use Rattle.scripts.specs.Texts.{answer_text, bound_text, call_text, FitsLine}
 use Rattle.scripts.specs.Written.{Begun}
 use Rattle.streams.specs.Held.{MayHold}
@@ -59,4 +59,4 @@ AnswersCalls m naming =
 -- a script is answered as the book's answers by each bound that it can name: by its kind, and an accuracy that passes
 abbrev pub CallsAreAnswered : Type 0
 CallsAreAnswered =
-    (f : Family) (k : ℕ) → Passes (family_accuracy_checks f k) → AnswersCalls (named_meaning f k) (bound_text f k)
+    (f : Family) (k : ℕ) → Passes (family_accuracy_checks f k) → AnswersCalls (family_meaning f k) (bound_text f k)

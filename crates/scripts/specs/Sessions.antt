@@ -2,11 +2,8 @@
 use Rattle.std.specs.Prelude.{ℕ, ◌+◌, ◌-◌, ◌^◌, Bool, true, false, List, [], ◌∷◌, ◌++◌, min}
 use Rattle.rows.specs.Answers.{Answer, gives, refuses, checked}
 use Rattle.rows.specs.Books.{Book}
-use Rattle.bounds.specs.declared.families.Family.{Family}
-use Rattle.bounds.specs.declared.families.Family.TheVariants.{ExactSteps, LinearTail}
-use Rattle.bounds.specs.Families.{family_accuracy_checks}
+use Rattle.bounds.specs.Families.{family_accuracy_checks, family_meaning}
 use Rattle.bounds.specs.Meaning.{Meaning}
-use Rattle.bounds.specs.Supplied.{exact_steps, linear_tail}
 use Rattle.bounds.specs.Values.{meaning_of}
 use Rattle.admission.specs.Books.{first_book, step}
 use Rattle.admission.specs.Replies.{Told, answer_of}
@@ -37,11 +34,6 @@ abbrev pub is_named : State → Bool
 is_named unnamed = false
 is_named (named m b) = true
 
--- what the bound means that its kind and an accuracy name
-abbrev pub named_meaning : Family → ℕ → Meaning
-named_meaning ExactSteps k = exact_steps
-named_meaning LinearTail k = linear_tail k
-
 -- the bound that a line names has a meaning, by which a new bench counts; or it is refused, and none is named
 abbrev pub begins_by : Answer Meaning → State × Reaction
 begins_by (gives m) = (named m first_book, silent)
@@ -50,7 +42,7 @@ begins_by (refuses r at) = (unnamed, answers (refuses r at))
 -- a line before a bound is named: it may name one, on whose new bench the calls are played then. One that is passed
 -- over does nothing
 abbrev pub naming : ScriptLine → State × Reaction
-naming (Bound f k) = begins_by (checked (family_accuracy_checks f k) (named_meaning f k))
+naming (Bound f k) = begins_by (checked (family_accuracy_checks f k) (family_meaning f k))
 naming (NoCall expected) = (unnamed, no_call expected)
 naming _ = (unnamed, silent)
 
