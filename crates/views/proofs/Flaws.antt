@@ -1,6 +1,7 @@
 -- What is told of the faults of a table, and of the flaws of its rows.
 use Rattle.std.proofs.Common.{◌≡◌, ℕ, true, false, List, Option, refl, ap}
 use Rattle.std.specs.Option.{option_map}
+use Rattle.bounds.specs.declared.families.Family.{Family}
 use Rattle.rows.specs.declared.frames.FrameNumbers.{FrameNumbers}
 use Rattle.rows.specs.declared.refusals.Fault.{Fault}
 use Rattle.rows.specs.Answers.{first_refusal, refuses}
@@ -12,19 +13,19 @@ use Rattle.views.specs.declared.troubles.Trouble.TheVariants as trouble
 use Rattle.views.specs.Troubles.{IsTroubleOf, TellsFault, TellsFlaw, TroubleTells, is_of_row, is_output, of_responses}
 
 -- a fault that is told at a number is a refusal of a row
-pub fault_told : (frame : Option FrameNumbers) (table : TaskTable) (fault : Fault) (t : Trouble)
-    → is_of_row fault.refusal ≡ true → TellsFault table fault t → TroubleTells frame fault.refusal t
-fault_told frame table fault (trouble.Row m) row told = (ap (option_map (λ r. r.refusal)) told.refused, row)
-fault_told frame table fault (trouble.Memory e) row told = tt
-fault_told frame table fault (trouble.Table e) row told = absurd told
-fault_told frame table fault trouble.Frame row told = absurd told
-fault_told frame table fault trouble.NoFrame row told = absurd told
-fault_told frame table fault trouble.Accuracy row told = absurd told
-fault_told frame table fault (trouble.Rank n) row told = absurd told
-fault_told frame table fault (trouble.Damaged d) row told = absurd told
-fault_told frame table fault (trouble.Different d) row told = absurd told
-fault_told frame table fault (trouble.Input e) row told = absurd told
-fault_told frame table fault (trouble.Output e) row told = absurd told
+pub fault_told : (frame : Option FrameNumbers) (family : Family) (table : TaskTable) (fault : Fault) (t : Trouble)
+    → is_of_row fault.refusal ≡ true → TellsFault table fault t → TroubleTells frame family fault.refusal t
+fault_told frame family table fault (trouble.Row m) row told = (ap (option_map (λ r. r.refusal)) told.refused, row)
+fault_told frame family table fault (trouble.Memory e) row told = tt
+fault_told frame family table fault (trouble.Table e) row told = absurd told
+fault_told frame family table fault trouble.Frame row told = absurd told
+fault_told frame family table fault trouble.NoFrame row told = absurd told
+fault_told frame family table fault (trouble.Accuracy f) row told = absurd told
+fault_told frame family table fault (trouble.Rank n) row told = absurd told
+fault_told frame family table fault (trouble.Damaged d) row told = absurd told
+fault_told frame family table fault (trouble.Different d) row told = absurd told
+fault_told frame family table fault (trouble.Input e) row told = absurd told
+fault_told frame family table fault (trouble.Output e) row told = absurd told
 
 -- where the fault is the first flaw of the table, that is told
 pub flaw_told : (table : TaskTable) (fault : Fault) (t : Trouble)
@@ -35,7 +36,7 @@ flaw_told table fault (trouble.Memory e) first told = tt
 flaw_told table fault (trouble.Table e) first told = absurd told
 flaw_told table fault trouble.Frame first told = absurd told
 flaw_told table fault trouble.NoFrame first told = absurd told
-flaw_told table fault trouble.Accuracy first told = absurd told
+flaw_told table fault (trouble.Accuracy f) first told = absurd told
 flaw_told table fault (trouble.Rank n) first told = absurd told
 flaw_told table fault (trouble.Damaged d) first told = absurd told
 flaw_told table fault (trouble.Different d) first told = absurd told
@@ -50,7 +51,7 @@ flaw_is held table (trouble.Memory e) read told = (tt, refl)
 flaw_is held table (trouble.Table e) read told = absurd told
 flaw_is held table trouble.Frame read told = absurd told
 flaw_is held table trouble.NoFrame read told = absurd told
-flaw_is held table trouble.Accuracy read told = absurd told
+flaw_is held table (trouble.Accuracy f) read told = absurd told
 flaw_is held table (trouble.Rank n) read told = absurd told
 flaw_is held table (trouble.Damaged d) read told = absurd told
 flaw_is held table (trouble.Different d) read told = absurd told
