@@ -12,6 +12,7 @@ line, and `stdout` with the answers, each behind a line `=== ` and the command l
 | `compare A B` | what is printed |
 | `plot TABLE --rank R --linear K [--frame H]` | the picture's description |
 | `sheet TABLE [--linear K] [--frame H]` | the sheet in hexadecimal |
+| `respond TABLE` | what is printed |
 | `bench SCRIPT` | what is printed |
 
 What is refused is answered by one line, `trouble: ` and what is told. The same files come each time.
@@ -26,10 +27,10 @@ from pathlib import Path
 sys.dont_write_bytecode = True  # leave no cache beside the sources
 
 from chance import Source  # noqa: E402
-from counts import EXACT_STEPS, LINEAR_TAILS, check_case, survey, window  # noqa: E402
+from counts import EXACT_STEPS, LINEAR_TAILS, check_case, exact_demand, survey, window  # noqa: E402
 from leaves import HORIZON, read_leaf, write_end, write_finding, write_heading, write_leaf, write_row  # noqa: E402
 from refusals import SHORT_BUFFER, SHORT_LIST, WORDS, refused  # noqa: E402
-from views import MOST_NUMBER, Judged, Trouble, answer, leaf_of  # noqa: E402
+from views import MOST_NUMBER, Judged, Trouble, answer, leaf_of, responses_of  # noqa: E402
 
 MARK = '\ufeff'  # the byte order mark
 
@@ -516,6 +517,94 @@ def sheets():
     ask('sheet empty.csv', trouble(nothing(1)))
 
 
+RESPOND_TOLD = """\
+rank  name  C   D   T  J  response  slack
+   1  A     1   4   4  0         1      3
+   2  B     2   6   6  1         4      2
+   3  E     3  12  12  0        10      2
+3 of 3 rows meet in exact steps
+"""
+
+# Rows whose periods have no common multiple up to 16,777,216. Counted by hand: C would rest at 10, past its window; D rests
+# just before A asks for its second work, and E only behind that, at its deadline.
+NO_FRAME_ROWS = [(3, 10, 4099, 4), (5, 4096, 4111, 8), (2, 9, HORIZON, 0), (4085, HORIZON, HORIZON, 1), (1, 4099, 5000, 0)]
+
+NO_FRAME_TOLD = """\
+rank  name     C         D         T  J  response     slack
+   1  A        3        10      4099  4         7         3
+   2  B        5      4096      4111  8        16      4080
+   3  C        2         9  16777216  0    misses         -
+   4  D     4085  16777216  16777216  1      4096  16773120
+   5  E        1      4099      5000  0      4099         0
+4 of 5 rows meet in exact steps
+"""
+
+
+def climbed(row, above):
+    """The least instant up to the window at which the exact demand is that instant, or None: from demand to demand."""
+    instant = row[0]
+    while instant <= window(row):
+        total = exact_demand(row, above, instant)
+        if total == instant:
+            return instant
+        instant = total
+    return None
+
+
+def check_responses(name):
+    """Holds the response times of a table to the least fixed points of the exact demand, where it is not refused."""
+    try:
+        tasks, responses = responses_of(files[name])
+    except Trouble:
+        return
+    rows = [task.numbers for task in tasks]
+    for at, (row, response) in enumerate(zip(rows, responses)):
+        rest = climbed(row, rows[:at])
+        assert response == (None if rest is None else rest + row[3]), (name, at)
+
+
+def respond(name, told=None):
+    """Adds a command line `respond`, maybe with what is told of its table."""
+    ask(f'respond {name}', told)
+    check_responses(name)
+
+
+def responds():
+    """Response times, of tables with a common multiple of the periods and with none."""
+    respond('worked.csv', RESPOND_TOLD)
+    put('no-frame.csv', rows_text(NO_FRAME_ROWS, names=list('ABCDE')))
+    respond('no-frame.csv', NO_FRAME_TOLD)
+    ask('sheet no-frame.csv', NO_MULTIPLE)
+    respond('r-multiple.csv', """\
+rank  name  C   D     T  J  response  slack
+   1  -     1  10  4099  0         1      9
+   2  -     1  10  4111  0         2      8
+2 of 2 rows meet in exact steps
+""")
+    respond('heading.csv', 'rank  name  C  D  T  J  response  slack\n0 of 0 rows meet in exact steps\n')
+    put('no-frame-jitters.tsv', rows_text([
+        (1, 7, 7, 6), (2, 11, 11, 3), (3, 101, 101, 20), (5, 1009, 1009, 400), (9, 20, 4001, 0), (700, 16_777_213, 16_777_213, 5000),
+        (40, 50_000, 16_777_199, 0), (90_000, 16_000_000, HORIZON, 7_000_000), (8, 90, 5003, 17),
+    ], '\t'))
+    respond('no-frame-jitters.tsv')
+    for name in [
+        'worked.tsv', 'worked.txt', 'letters.csv', 'wcet.txt', 'order.csv', 'bare.csv', 'jitter.txt', 'one.csv', 'heading-no-end.txt',
+        'quotes.csv', 'characters.csv', 'control.csv', 'long-names.csv', 'no-names.tsv', 'near-numbers.csv',
+        'full.csv', 'full-passed.csv', 'tail-misses.csv', 'both-miss.csv', 'jitters.csv', 'long-windows.csv', 'long-misses.tsv',
+        'primes.csv', 'common.csv', 'horizon.csv', 'whole.csv', 'r-off-4.csv', 'r-order-4.csv', 'chance-01.tsv', 'chance-08.txt',
+        'chance-12.csv',
+    ]:
+        respond(name)
+    for name in [
+        'empty.csv', 'only-commas.csv', 'h-unknown.csv', 'h-no-period.csv', 'f-few.csv', 'f-lines.csv', 'f-33.csv', 'n-01.csv',
+        'l-01.csv', 'l-04.csv', 'l-10.csv', 'b-name.csv', 'r-idle-3.csv', 'r-window.csv', 'r-window-below.csv', 'r-window-none.csv',
+        'r-window-sum.csv', 'r-late.csv', 'r-late-3.tsv', 'r-long.csv', 'r-order-multiple.csv',
+    ]:
+        respond(name, expected[f'file {name} --linear 3'])
+    for number in range(4):
+        respond(f'r-order-{number}.csv', expected[f'file r-order-{number}.csv --linear 3 --frame 16'])
+
+
 # --- Leaves ------------------------------------------------------------------------------------------------
 
 
@@ -795,7 +884,7 @@ def make_cases():
     """Adds all files and command lines."""
     for make in [
         forms, names, counted, random_tables, bad_headings, bad_fields, bad_numbers, large_numbers, bad_bytes, refused_tables,
-        refused_options, plots, sheets, shows, compares, scripts,
+        refused_options, plots, sheets, responds, shows, compares, scripts,
     ]:
         make()
 
@@ -810,7 +899,7 @@ def check_tables():
 
 # What must be told somewhere: every refusal but those of a caller's list and buffer, and every other form of what is told.
 FORMS = [refused(number) for number in WORDS if number not in (SHORT_LIST, SHORT_BUFFER)] + [
-    'misses    -', 'of 32 rows meet', '0 of 0 rows meet', '0.01 %', 'stands there, expected a number from 0 to 4294967295\n',
+    'misses    -', 'misses         -', 'of 32 rows meet', ' rows meet in exact steps\n', '0 of 0 rows meet', '0.01 %', 'stands there, expected a number from 0 to 4294967295\n',
     'fields stand there, expected', 'stands there again', 'no heading', 'a task more', 'nothing stands there', 'no text',
     'expected at least 1', 'less the jitter', 'is below the jitter', 'leaves none of the deadline',
     'at most the period', 'at most 16777216', 'a divisor of the frame',

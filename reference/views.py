@@ -9,6 +9,7 @@ refused or cannot be taken is a Trouble, whose text is what is told behind the f
     python3 reference/views.py compare A B
     python3 reference/views.py plot TABLE --rank R --linear K [--frame H]
     python3 reference/views.py sheet TABLE [--linear K] [--frame H]
+    python3 reference/views.py respond TABLE
     python3 reference/views.py bench SCRIPT
 
 prints what is told of the files named: of `file` the table, and the bytes of both leaves or, with a name, the lines that
@@ -23,7 +24,7 @@ from pathlib import Path
 sys.dont_write_bytecode = True  # leave no cache beside the sources
 
 from benches import play  # noqa: E402
-from counts import EXACT_STEPS, LINEAR_TAILS, survey, window  # noqa: E402
+from counts import EXACT_STEPS, LINEAR_TAILS, response_time, survey, window  # noqa: E402
 from leaves import HORIZON, MOST_ACCURACY, MOST_ROWS, read_leaf, write_heading, write_leaf, write_row  # noqa: E402
 from refusals import (  # noqa: E402
     BAD_ACCURACY,
@@ -331,6 +332,15 @@ CHECKS = {
 }
 
 
+def check_tasks(tasks, frame=None):
+    """The tasks have no flaw: each is looked for in every task before the next, off the frame only where one is named."""
+    for number, check in CHECKS.items():
+        for rank, task in enumerate(tasks, 1):
+            told = check(task, frame)
+            if told is not None:
+                raise Trouble(f'{told}: {refused(number)} at rank {rank}')
+
+
 class Judged:
     """A table that was read and judged: its tasks, its rows and its frame."""
 
@@ -341,11 +351,7 @@ class Judged:
             raise Trouble(f'{refused(BAD_FRAME)}: expected --frame from 1 to {HORIZON}')
         if accuracy is not None and not 1 <= accuracy <= MOST_ACCURACY:
             raise Trouble(f'{refused(BAD_ACCURACY)}: expected --linear from 1 to {MOST_ACCURACY}')
-        for number, check in CHECKS.items():
-            for rank, task in enumerate(self.tasks, 1):
-                told = check(task, frame)
-                if told is not None:
-                    raise Trouble(f'{told}: {refused(number)} at rank {rank}')
+        check_tasks(self.tasks, frame)
         self.rows = [task.numbers for task in self.tasks]
         self.frame = frame if frame is not None else math.lcm(*(period for _, _, period, _ in self.rows))
         if self.frame > HORIZON:
@@ -372,7 +378,7 @@ def columns(headings, lines):
 
 
 def rest_told(rest):
-    """A first rest as people read it; there is none where the row misses."""
+    """A first rest or a response as people read it; there is none where the row misses."""
     return 'misses' if rest is None else rest
 
 
@@ -473,6 +479,31 @@ def sheet_of(data, accuracy=None, frame=None):
     judged = Judged(data, accuracy, frame)
     heading = write_heading(judged.frame, 0 if accuracy is None else 1, accuracy or 0)
     return heading + b''.join(write_row(*row) for row in judged.rows)
+
+
+# --- respond -----------------------------------------------------------------------------------------------
+
+RESPOND_COLUMNS = ['rank', 'name', 'C', 'D', 'T', 'J', 'response', 'slack']
+
+
+def responses_of(data):
+    """The tasks of a table, and the response time of each in exact steps, None where it misses. There is no frame."""
+    tasks = read_table(data)
+    check_tasks(tasks)
+    rows = tuple(task.numbers for task in tasks)
+    return tasks, [response_time(row, rows[:at]) for at, row in enumerate(rows)]
+
+
+def respond(data):
+    """What `respond` prints of a table."""
+    tasks, responses = responses_of(data)
+    lines = []
+    for rank, (task, response) in enumerate(zip(tasks, responses), 1):
+        slack = None if response is None else task.numbers[1] - response
+        assert slack is None or slack >= 0
+        lines.append([rank, task.name or None, *task.numbers, rest_told(response), slack])
+    meet = sum(response is not None for response in responses)
+    return columns(RESPOND_COLUMNS, lines) + f'{meet} of {len(tasks)} rows meet in exact steps\n'
 
 
 # --- show --------------------------------------------------------------------------------------------------
@@ -665,7 +696,10 @@ def answered(words, read):
         return plot_numbers(data, options['--rank'], accuracy, frame)
     if subcommand == 'sheet':
         return f'sheet: {sheet_of(data, accuracy, frame).hex().upper()}\n'
-    assert subcommand == 'bench' and not options
+    assert not options
+    if subcommand == 'respond':
+        return respond(data)
+    assert subcommand == 'bench'
     return play(data).decode('ascii')
 
 

@@ -23,6 +23,7 @@ pub(crate) fn answer(rt: &HostRuntime, line: &Line<'_>) -> anyhow::Result<Vec<u8
         Line::Sheet { table, options } => {
             or_trouble(alloc, sheet(alloc, &read(rt, table)?, options))
         }
+        Line::Respond { table } => or_trouble(alloc, respond(alloc, &read(rt, table)?)),
         Line::Bench { script } => bench(alloc, &read(rt, script)?),
     }
 }
@@ -118,6 +119,13 @@ fn sheet(alloc: Global, bytes: &[u8], options: &Options) -> Result<Vec<u8>, Trou
     )?;
     let mut text = Vec::new(alloc);
     put_hex(alloc, &mut text, "sheet", &sheet)?;
+    Ok(text)
+}
+
+fn respond(alloc: Global, bytes: &[u8]) -> Result<Vec<u8>, Trouble> {
+    let mut reader = bytes;
+    let mut text = Vec::new(alloc);
+    views::respond(alloc, &mut reader, &mut text)?;
     Ok(text)
 }
 

@@ -30,6 +30,9 @@ pub(crate) enum Line<'a> {
         table: &'a str,
         options: Options,
     },
+    Respond {
+        table: &'a str,
+    },
     Bench {
         script: &'a str,
     },
@@ -50,6 +53,7 @@ impl<'a> Line<'a> {
                 table,
                 options: Options::parse(options)?,
             }),
+            ["respond", table] => Ok(Line::Respond { table }),
             ["bench", script] => Ok(Line::Bench { script }),
             _ => bail!("no command line: {text:?}"),
         }
