@@ -44,7 +44,7 @@ pub(crate) const ABOUT: &str =
 pub(crate) const EXAMPLE: &str = "Example:\n  yabreznul file worked.csv --linear 3 --out worked";
 
 /// The subcommands, in the order of help.
-pub(crate) const FORMS: &[SubcommandForm] = &[FILE, SHOW, COMPARE, PLOT, SHEET, BENCH];
+pub(crate) const FORMS: &[SubcommandForm] = &[FILE, SHOW, COMPARE, PLOT, SHEET, RESPOND, BENCH];
 
 const FILE: SubcommandForm = SubcommandForm {
     name: "file",
@@ -79,6 +79,13 @@ const SHEET: SubcommandForm = SubcommandForm {
     about: "Writes the sheet of a table, which survey answers",
     example: "Example:\n  yabreznul sheet worked.csv --linear 3 | survey > worked.leaf",
     arguments: &[TABLE, LINEAR, FRAME],
+};
+
+const RESPOND: SubcommandForm = SubcommandForm {
+    name: "respond",
+    about: "Prints the exact response time of each row of a table, with no frame",
+    example: "Example:\n  yabreznul respond worked.csv",
+    arguments: &[TABLE],
 };
 
 const BENCH: SubcommandForm = SubcommandForm {

@@ -15,6 +15,7 @@ mod outputs;
 mod pictures;
 mod progress;
 mod requests;
+mod responses;
 mod sheeting;
 mod shows;
 
@@ -33,6 +34,7 @@ fn act(rt: &HostRuntime, asked: &ArgMatches<'_>) -> Result<(), Failed> {
         Some(("compare", given)) => shows::compare(rt, given),
         Some(("plot", given)) => pictures::plot(rt, given),
         Some(("sheet", given)) => sheeting::sheet(rt, given),
+        Some(("respond", given)) => responses::respond(rt, given),
         Some(("bench", given)) => benches::bench(rt, given),
         _ => Err(MISUSED),
     }
