@@ -1,9 +1,8 @@
 // What is told of a command line.
 use crate::lines::Line;
-use crate::options::Options;
 use crate::pictures::told;
 use anyhow::Context;
-use filings::Quiet;
+use filings::{Filing, Quiet};
 use std::alloc::Global;
 use std::fs;
 use std::io::Write;
@@ -20,9 +19,7 @@ pub(crate) fn answer(rt: &HostRuntime, line: &Line<'_>) -> anyhow::Result<Vec<u8
             or_trouble(alloc, compare(alloc, (first, &one), (second, &other)))
         }
         Line::Plot { table, rank, how } => plot(alloc, &read(rt, table)?, *rank, *how),
-        Line::Sheet { table, options } => {
-            or_trouble(alloc, sheet(alloc, &read(rt, table)?, options))
-        }
+        Line::Sheet { table, how } => or_trouble(alloc, sheet(alloc, &read(rt, table)?, *how)),
         Line::Respond { table } => or_trouble(alloc, respond(alloc, &read(rt, table)?)),
         Line::Bench { script } => bench(alloc, &read(rt, script)?),
     }
@@ -59,14 +56,32 @@ fn file(alloc: Global, bytes: &[u8], how: Counting) -> Result<Vec<u8>, Trouble> 
     let counted = counted?;
     let mut text = Vec::new(alloc);
     counted.write_table(alloc, &mut text)?;
-    put_hex(alloc, &mut text, "exact leaf", &counted.exact_leaf(alloc)?)?;
-    put_hex(
+    put_leaf(
         alloc,
         &mut text,
-        "linear leaf",
-        &counted.linear_leaf(alloc)?,
+        counted.exact(),
+        &counted.exact_leaf(alloc)?,
+    )?;
+    put_leaf(
+        alloc,
+        &mut text,
+        counted.bounded(),
+        &counted.bounded_leaf(alloc)?,
     )?;
     Ok(text)
+}
+
+// Puts a line with the leaf of a count behind a text, told by the word of its kind of bounds.
+fn put_leaf(
+    alloc: Global,
+    text: &mut Vec<u8>,
+    filing: &Filing,
+    leaf: &[u8],
+) -> Result<(), Trouble> {
+    let (family, _) = filing.bound().plain();
+    let word = family.word();
+    let what = format!(in alloc; "{word} leaf")?;
+    put_hex(alloc, text, what.as_str(), leaf)
 }
 
 fn show(rt: &HostRuntime, layout: Layout, leaves: &[&str]) -> anyhow::Result<Vec<u8>> {
@@ -107,16 +122,10 @@ fn plot(alloc: Global, bytes: &[u8], rank: u32, how: Counting) -> anyhow::Result
     Ok(text)
 }
 
-fn sheet(alloc: Global, bytes: &[u8], options: &Options) -> Result<Vec<u8>, Trouble> {
+fn sheet(alloc: Global, bytes: &[u8], how: Counting) -> Result<Vec<u8>, Trouble> {
     let mut reader = bytes;
     let mut sheet = Vec::new(alloc);
-    views::sheet(
-        alloc,
-        &mut reader,
-        options.frame,
-        options.linear,
-        &mut sheet,
-    )?;
+    views::sheet(alloc, &mut reader, how, &mut sheet)?;
     let mut text = Vec::new(alloc);
     put_hex(alloc, &mut text, "sheet", &sheet)?;
     Ok(text)

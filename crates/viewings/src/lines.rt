@@ -3,6 +3,7 @@ ghost use Rattle.std.specs.Prelude.{◌≡◌, IfOk, Some};
 
 use crate::options::Options;
 use anyhow::{Context, bail};
+use bounds::Family;
 use std::alloc::Global;
 use views::{Counting, Layout};
 
@@ -28,7 +29,7 @@ pub(crate) enum Line<'a> {
     },
     Sheet {
         table: &'a str,
-        options: Options,
+        how: Counting,
     },
     Respond {
         table: &'a str,
@@ -49,10 +50,7 @@ impl<'a> Line<'a> {
             ["show", leaves @ ..] => show(alloc, Layout::Aligned, leaves),
             ["compare", first, second] => Ok(Line::Compare { first, second }),
             ["plot", table, options @ ..] => plot(table, options),
-            ["sheet", table, options @ ..] => Ok(Line::Sheet {
-                table,
-                options: Options::parse(options)?,
-            }),
+            ["sheet", table, options @ ..] => sheet(table, options),
             ["respond", table] => Ok(Line::Respond { table }),
             ["bench", script] => Ok(Line::Bench { script }),
             _ => bail!("no command line: {text:?}"),
@@ -81,13 +79,33 @@ fn plot<'a>(table: &'a str, options: &[&str]) -> anyhow::Result<Line<'a>> {
     })
 }
 
+fn sheet<'a>(table: &'a str, options: &[&str]) -> anyhow::Result<Line<'a>> {
+    let options = Options::parse(options)?;
+    let bound = options.bound.unwrap_or((Family::ExactSteps, 0));
+    Ok(Line::Sheet {
+        table,
+        how: counting_by(&options, bound),
+    })
+}
+
 // How a table is counted.
 fn counting(options: &Options) -> anyhow::Result<Counting>
     ensures frame { IfOk result (λ how. how.frame ≡ options.now.frame) }
-    ensures accuracy { IfOk result (λ how. options.now.linear ≡ Some how.accuracy) }
+    ensures bound { IfOk result (λ how. options.now.bound ≡ Some (how.family, how.accuracy)) }
 {
-    Ok(Counting {
+    let bound = options.bound.context("no accuracy")?;
+    Ok(counting_by(options, bound))
+}
+
+// How a table is counted by the bound that a kind and an accuracy name.
+fn counting_by(options: &Options, bound: (Family, u32)) -> Counting
+    ensures frame { result.frame ≡ options.now.frame }
+    ensures bound { (result.family, result.accuracy) ≡ bound }
+{
+    let (family, accuracy) = bound;
+    Counting {
         frame: options.frame,
-        accuracy: options.linear.context("no accuracy")?,
-    })
+        family,
+        accuracy,
+    }
 }

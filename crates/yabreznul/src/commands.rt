@@ -1,22 +1,27 @@
 // The command line, made of the forms of the subcommands.
+use crate::accuracies::AccuracyOption;
 use crate::forms::{ABOUT, Argument, EXAMPLE, FORMS, Operand, SubcommandForm};
 use clap::{Arg, ArgAction, ArgMatches, Command, Error, value_parser};
 use std::alloc::{AllocError, Global};
 
-/// What the words of a command line give, of which the first names the program. The error is what help
-/// or a misuse prints.
-pub(crate) fn matches<'a>(alloc: Global, words: &'a [String]) -> Result<ArgMatches<'a>, Error> {
-    match command(alloc) {
+/// What the words of a command line give, of which the first names the program, with the options that
+/// name a bound. The error is what help or a misuse prints.
+pub(crate) fn matches<'a>(
+    alloc: Global,
+    accuracies: &'a [AccuracyOption],
+    words: &'a [String],
+) -> Result<ArgMatches<'a>, Error> {
+    match command(alloc, accuracies) {
         Ok(command) => command.try_get_matches_from(words),
         Err(error) => Err(Error::from(error)),
     }
 }
 
 // The whole command.
-fn command<'a>(alloc: Global) -> Result<Command<'a>, AllocError> {
+fn command<'a>(alloc: Global, accuracies: &'a [AccuracyOption]) -> Result<Command<'a>, AllocError> {
     let mut command = top(alloc);
     for form in FORMS {
-        command = command.subcommand(subcommand(alloc, form)?)?;
+        command = command.subcommand(subcommand(alloc, accuracies, form)?)?;
     }
     Ok(command)
 }
@@ -32,10 +37,34 @@ fn described<'a>(alloc: Global, name: &'a str, about: &'a str, example: &'a str)
 }
 
 // The subcommand of a form.
-fn subcommand<'a>(alloc: Global, form: &SubcommandForm) -> Result<Command<'a>, AllocError> {
+fn subcommand<'a>(
+    alloc: Global,
+    accuracies: &'a [AccuracyOption],
+    form: &SubcommandForm,
+) -> Result<Command<'a>, AllocError> {
     let mut command = described(alloc, form.name, form.about, form.example);
     for argument in form.arguments {
-        command = command.arg(arg(alloc, argument)?)?;
+        command = match argument.takes {
+            Operand::Accuracy(value) => {
+                with_accuracies(alloc, command, accuracies, value, argument.required)?
+            }
+            _ => command.arg(arg(alloc, argument)?)?,
+        };
+    }
+    Ok(command)
+}
+
+// A command with the options that name a bound by its accuracy.
+fn with_accuracies<'a>(
+    alloc: Global,
+    command: Command<'a>,
+    accuracies: &'a [AccuracyOption],
+    value: &'static str,
+    required: bool,
+) -> Result<Command<'a>, AllocError> {
+    let mut command = command;
+    for option in accuracies {
+        command = command.arg(option.arg(alloc, value, required, accuracies)?)?;
     }
     Ok(command)
 }
@@ -48,7 +77,7 @@ fn arg<'a>(alloc: Global, argument: &Argument) -> Result<Arg<'a>, AllocError> {
         Operand::Words(_) => Ok(words(arg)),
         Operand::Text(_) => Ok(arg.long(argument.name)),
         Operand::Lettered(letter, _) => Ok(arg.long(argument.name).short(letter)),
-        Operand::Number(_) => Ok(number(arg, argument.name)),
+        Operand::Number(_) | Operand::Accuracy(_) => Ok(number(arg, argument.name)),
         Operand::Nothing => Ok(flag(arg, argument.name)),
         Operand::NothingBeside(other) => flag(arg, argument.name).conflicts_with(other),
     }
@@ -72,7 +101,8 @@ fn value_name(takes: Operand) -> Option<&'static str> {
         | Operand::Words(name)
         | Operand::Text(name)
         | Operand::Lettered(_, name)
-        | Operand::Number(name) => Some(name),
+        | Operand::Number(name)
+        | Operand::Accuracy(name) => Some(name),
         Operand::Nothing | Operand::NothingBeside(_) => None,
     }
 }

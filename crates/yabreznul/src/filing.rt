@@ -5,7 +5,9 @@ use crate::inputs::{Source, open_or_complain};
 use crate::outputs::print;
 use crate::progress::Teller;
 use crate::requests::{counting, source};
+use bounds::Short;
 use clap::ArgMatches;
+use filings::Filing;
 use std::alloc::Global;
 use std::io;
 use std::io::Write;
@@ -18,7 +20,7 @@ pub(crate) fn file(rt: &HostRuntime, given: &ArgMatches<'_>) -> Result<(), Faile
     };
     let table = source(given, "table");
     let counted = count(rt, table, how)?;
-    let drafts = drafts(rt.alloc(), &counted, out, how.accuracy);
+    let drafts = drafts(rt.alloc(), &counted, out);
     let drafts = or_complain(rt, table.name(), drafts)?;
     file_leaves(rt, &counted, &drafts, given.get_flag("force"))
 }
@@ -44,31 +46,16 @@ fn count(rt: &HostRuntime, table: Source<'_>, how: Counting) -> Result<Counted, 
 }
 
 // The two leaves of a table that was counted, to be filed.
-fn drafts(
-    alloc: Global,
-    counted: &Counted,
-    out: &str,
-    accuracy: u32,
-) -> Result<[Draft; 2], Trouble> {
-    let exact = exact(alloc, counted, out)?;
-    let linear = linear(alloc, counted, out, accuracy)?;
-    Ok([exact, linear])
+fn drafts(alloc: Global, counted: &Counted, out: &str) -> Result<[Draft; 2], Trouble> {
+    let exact = draft(alloc, out, counted.exact(), counted.exact_leaf(alloc)?)?;
+    let bounded = draft(alloc, out, counted.bounded(), counted.bounded_leaf(alloc)?)?;
+    Ok([exact, bounded])
 }
 
-// The leaf in exact steps, to be filed.
-fn exact(alloc: Global, counted: &Counted, out: &str) -> Result<Draft, Trouble> {
-    let bytes = counted.exact_leaf(alloc)?;
-    Draft::new(alloc, format!(in alloc; "{out}.exact.leaf")?, bytes)
-}
-
-// The leaf by the linear tail, to be filed.
-fn linear(alloc: Global, counted: &Counted, out: &str, accuracy: u32) -> Result<Draft, Trouble> {
-    let bytes = counted.linear_leaf(alloc)?;
-    Draft::new(
-        alloc,
-        format!(in alloc; "{out}.linear-{accuracy}.leaf")?,
-        bytes,
-    )
+// The leaf of a count, to be filed under a name that ends in the short one of its bound.
+fn draft(alloc: Global, out: &str, filing: &Filing, leaf: Vec<u8>) -> Result<Draft, Trouble> {
+    let bound = Short(filing.bound());
+    Draft::new(alloc, format!(in alloc; "{out}.{bound}.leaf")?, leaf)
 }
 
 // Prints the table and what was filed of it.

@@ -13,6 +13,9 @@ pub(crate) enum Operand {
     Lettered(char, &'static str),
     /// A number behind the name of the option.
     Number(&'static str),
+    /// The accuracy of a bound, behind the word of its kind: an option for each kind of bounds that has
+    /// accuracies, of which one may be given.
+    Accuracy(&'static str),
     /// Nothing.
     Nothing,
     /// Nothing, and not beside another option.
@@ -78,7 +81,7 @@ const SHEET: SubcommandForm = SubcommandForm {
     name: "sheet",
     about: "Writes the sheet of a table, which survey answers",
     example: "Example:\n  yabreznul sheet worked.csv --linear 3 | survey > worked.leaf",
-    arguments: &[TABLE, LINEAR, FRAME],
+    arguments: &[TABLE, ANY_ACCURACY, FRAME],
 };
 
 const RESPOND: SubcommandForm = SubcommandForm {
@@ -102,18 +105,16 @@ const TABLE: Argument = Argument {
     help: "The task table; - or none is standard input",
 };
 
-const LINEAR: Argument = Argument {
-    name: "linear",
-    takes: Operand::Number("K"),
-    required: false,
-    help: "The accuracy of the linear tail, from 1 to 64",
+const ACCURACY: Argument = Argument {
+    name: "accuracy",
+    takes: Operand::Accuracy("K"),
+    required: true,
+    help: "The bound by its accuracy",
 };
 
-const ACCURACY: Argument = Argument {
-    name: "linear",
-    takes: Operand::Number("K"),
-    required: true,
-    help: "The accuracy of the linear tail, from 1 to 64",
+const ANY_ACCURACY: Argument = Argument {
+    required: false,
+    ..ACCURACY
 };
 
 const FRAME: Argument = Argument {

@@ -4,6 +4,7 @@
 //! It opens files, prints and ends in a status; what each subcommand writes is made by `views`.
 #![tactic(auto)]
 
+mod accuracies;
 mod benches;
 mod commands;
 mod complaints;
@@ -19,9 +20,10 @@ mod responses;
 mod sheeting;
 mod shows;
 
+use accuracies::accuracy_options;
 use clap::ArgMatches;
 use commands::matches;
-use complaints::{Failed, MISUSED};
+use complaints::{Failed, MISUSED, or_complain};
 use inputs::arguments;
 use outputs::print_parse;
 use std::process::ExitCode;
@@ -43,7 +45,8 @@ fn act(rt: &HostRuntime, asked: &ArgMatches<'_>) -> Result<(), Failed> {
 // Reads the command line and does what it asks.
 fn run(rt: &HostRuntime) -> Result<(), Failed> {
     let words = arguments(rt)?;
-    match matches(rt.alloc(), &words) {
+    let accuracies = or_complain(rt, "command line", accuracy_options(rt.alloc()))?;
+    match matches(rt.alloc(), &accuracies, &words) {
         Ok(asked) => act(rt, &asked),
         Err(error) => print_parse(rt, &error),
     }

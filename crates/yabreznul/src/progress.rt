@@ -1,4 +1,5 @@
 // How far a count is, told on a terminal.
+use bounds::Supplied;
 use filings::Progress;
 use std::io;
 use std::io::IsTerminal;
@@ -56,7 +57,7 @@ fn is_late(passed: io::Result<Duration>) -> bool {
 }
 
 impl Progress for Teller<'_> {
-    fn counted(&mut self, rows: usize, of: usize) {
+    fn counted(&mut self, _bound: Supplied, rows: usize, of: usize) {
         if self.is_due() {
             let _ = eprint!(self.rt; "\rcounted {rows} of {of} rows");
             self.written = true;

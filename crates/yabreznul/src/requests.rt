@@ -1,5 +1,6 @@
 // What the arguments of a subcommand ask.
 use crate::inputs::Source;
+use bounds::Family;
 use clap::ArgMatches;
 use rows::FrameNumbers;
 use std::alloc::{AllocError, Global};
@@ -39,12 +40,34 @@ pub(crate) fn frame(given: &ArgMatches<'_>) -> Option<FrameNumbers> {
     Some(FrameNumbers { ticks })
 }
 
-/// How a table is counted; none without an accuracy.
+/// How a table is counted; none where no bound is named. A kind of bounds is named by the option of its
+/// accuracies, which is called by its word.
 pub(crate) fn counting(given: &ArgMatches<'_>) -> Option<Counting> {
-    Some(Counting {
-        frame: frame(given),
-        accuracy: given.get_one("linear")?,
-    })
+    for family in Family::all() {
+        if family.has_accuracies() {
+            if let Some(accuracy) = given.get_one(family.word()) {
+                let frame = frame(given);
+                return Some(Counting {
+                    frame,
+                    family,
+                    accuracy,
+                });
+            }
+        }
+    }
+    None
+}
+
+/// How a table is counted; in exact steps where no bound is named.
+pub(crate) fn counting_or_exact(given: &ArgMatches<'_>) -> Counting {
+    match counting(given) {
+        Some(how) => how,
+        None => Counting {
+            frame: frame(given),
+            family: Family::ExactSteps,
+            accuracy: 0,
+        },
+    }
 }
 
 /// How leaves are shown.
