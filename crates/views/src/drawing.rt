@@ -1,5 +1,5 @@
 // The picture of one row's demand.
-ghost use Rattle.std.specs.Prelude.{◌≡◌, ◌-◌, false, take, Some, IfErr, OnOk};
+ghost use Rattle.std.specs.Prelude.{◌≡◌, ◌-◌, false, take, IfErr, OnOk};
 ghost use Rattle.std.specs.Io.KnownBytes.{Keeps};
 ghost use Rattle.rows.specs.Books.{book};
 ghost use Rattle.bounds.specs.Families.{supplied_plain};
