@@ -37,7 +37,7 @@ pub record IsCountOf (frame : Option FrameNumbers) (bound : Family × ℕ) (tabl
   pub tasks : map plain f.rows ≡ table_numbers table
 
 -- some bytes are the leaf of a counted table: the encoding of its survey by its bound
-pub record IsLeafOf (f : Filed) (bytes : List ℕ) : Type 0 where
+pub record IsFiledLeaf (f : Filed) (bytes : List ℕ) : Type 0 where
   pub contents : Contents
   pub survey : IsLeafOfCount f contents
   pub encoded : bytes ≡ encoding contents

@@ -1,7 +1,7 @@
 // A task table read and counted twice.
 ghost use Rattle.std.specs.Prelude.{◌≡◌, ◌≤◌, length, take, IfOk, IfErr, IsOkAnd};
 ghost use Rattle.task_tables.specs.Tables.{ReadsAll};
-ghost use Rattle.views.specs.Counted.{IsCountOf, IsLeafOf};
+ghost use Rattle.views.specs.Counted.{IsCountOf, IsFiledLeaf};
 ghost use Rattle.views.specs.Troubles.{IsTroubleOf, TroubleTells, TellsFirst, of_table};
 
 use crate::explained::explained;
@@ -111,7 +111,7 @@ pub(crate) fn trouble(alloc: Global, table: &TaskTable, how: Counting, fault: Fa
 
 impl Counted {
     ghost use Rattle.std.specs.Prelude.{◌≡◌, IfOk};
-    ghost use Rattle.views.specs.Counted.{IsLeafOf, in_exact_steps};
+    ghost use Rattle.views.specs.Counted.{IsFiledLeaf, in_exact_steps};
 
     // The table that was read.
     pub(crate) fn task_table(&self) -> &TaskTable
@@ -137,7 +137,7 @@ impl Counted {
     /// The leaf of the count by the bound that was named: the encoding of the survey (docs/FORMAT.md).
     /// Memory alone can fail.
     pub fn bounded_leaf(&self, alloc: Global) -> Result<Vec<u8>, AllocError>
-        ensures { IfOk result (λ bytes. IsLeafOf self.now.filed bytes.items) }
+        ensures { IfOk result (λ bytes. IsFiledLeaf self.now.filed bytes.items) }
     {
         leaf_of(alloc, self.bounded())
     }
@@ -145,7 +145,7 @@ impl Counted {
     /// The leaf of the count in exact steps: the encoding of the survey (docs/FORMAT.md). Memory alone
     /// can fail.
     pub fn exact_leaf(&self, alloc: Global) -> Result<Vec<u8>, AllocError>
-        ensures { IfOk result (λ bytes. IsLeafOf (in_exact_steps self.now.filed) bytes.items) }
+        ensures { IfOk result (λ bytes. IsFiledLeaf (in_exact_steps self.now.filed) bytes.items) }
     {
         leaf_of(alloc, self.exact())
     }
@@ -153,7 +153,7 @@ impl Counted {
 
 // The leaf of a count.
 fn leaf_of(alloc: Global, filing: &Filing) -> Result<Vec<u8>, AllocError>
-    ensures { IfOk result (λ bytes. IsLeafOf filing.now bytes.items) }
+    ensures { IfOk result (λ bytes. IsFiledLeaf filing.now bytes.items) }
 {
     let mut buffer = [0; MOST_ANSWER];
     let filed = filing.file(&mut buffer);
