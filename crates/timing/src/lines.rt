@@ -6,7 +6,7 @@ use rows::{FrameNumbers, Numbers, Row};
 use std::alloc::Global;
 
 /// A line: a work that has no table yet, the frame of a table, or a row.
-#[derive(Debug, Drop)]
+#[derive(Drop)]
 pub(crate) enum WorkLine {
     Work(Work),
     Table(FrameNumbers),

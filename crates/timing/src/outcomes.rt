@@ -3,7 +3,7 @@ use findings::{Finding, Verdict};
 use rows::MOST_ROWS;
 
 /// How many rows met in the last round, a digest of all that was found, and how long the rounds took.
-#[derive(Clone, Copy, PartialEq, Eq, Debug)]
+#[derive(Clone, Copy)]
 pub(crate) struct WorkOutcome {
     pub(crate) met: usize,
     pub(crate) digest: u64,

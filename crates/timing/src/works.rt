@@ -6,14 +6,14 @@ use rows::Table;
 
 /// What is done with the tables of a work: each is surveyed, or the one table stands on a bench on which
 /// the row at a rank is dismissed and admitted again.
-#[derive(Clone, Copy, PartialEq, Eq, Debug)]
+#[derive(Clone, Copy)]
 pub(crate) enum Action {
     Survey,
     Swap(usize),
 }
 
 /// A work: its rounds are timed as one.
-#[derive(Debug, Drop)]
+#[derive(Drop)]
 pub(crate) struct Work {
     pub(crate) name: String,
     pub(crate) action: Action,

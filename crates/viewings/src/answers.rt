@@ -6,7 +6,7 @@ use filings::{Filing, Quiet};
 use std::alloc::Global;
 use std::fs;
 use std::io::Write;
-use views::{Counting, Layout, Show, Trouble, count_table};
+use views::{Counting, Layout, Show, Trouble, count_table, leaf_of};
 
 /// What a command line gives, as text; what is refused is told in one line.
 pub(crate) fn answer(rt: &HostRuntime, line: &Line<'_>) -> anyhow::Result<Vec<u8>> {
@@ -56,32 +56,17 @@ fn file(alloc: Global, bytes: &[u8], how: Counting) -> Result<Vec<u8>, Trouble> 
     let counted = counted?;
     let mut text = Vec::new(alloc);
     counted.write_table(alloc, &mut text)?;
-    put_leaf(
-        alloc,
-        &mut text,
-        counted.exact(),
-        &counted.exact_leaf(alloc)?,
-    )?;
-    put_leaf(
-        alloc,
-        &mut text,
-        counted.bounded(),
-        &counted.bounded_leaf(alloc)?,
-    )?;
+    put_leaf(alloc, &mut text, counted.exact())?;
+    put_leaf(alloc, &mut text, counted.bounded())?;
     Ok(text)
 }
 
 // Puts a line with the leaf of a count behind a text, told by the word of its kind of bounds.
-fn put_leaf(
-    alloc: Global,
-    text: &mut Vec<u8>,
-    filing: &Filing,
-    leaf: &[u8],
-) -> Result<(), Trouble> {
+fn put_leaf(alloc: Global, text: &mut Vec<u8>, filing: &Filing) -> Result<(), Trouble> {
     let (family, _) = filing.bound().plain();
     let word = family.word();
     let what = format!(in alloc; "{word} leaf")?;
-    put_hex(alloc, text, what.as_str(), leaf)
+    put_hex(alloc, text, what.as_str(), &leaf_of(alloc, filing)?)
 }
 
 fn show(rt: &HostRuntime, layout: Layout, leaves: &[&str]) -> anyhow::Result<Vec<u8>> {

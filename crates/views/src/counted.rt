@@ -110,8 +110,8 @@ pub(crate) fn trouble(alloc: Global, table: &TaskTable, how: Counting, fault: Fa
 }
 
 impl Counted {
-    ghost use Rattle.std.specs.Prelude.{◌≡◌, IfOk};
-    ghost use Rattle.views.specs.Counted.{IsFiledLeaf, in_exact_steps};
+    ghost use Rattle.std.specs.Prelude.{◌≡◌};
+    ghost use Rattle.views.specs.Counted.{in_exact_steps};
 
     // The table that was read.
     pub(crate) fn task_table(&self) -> &TaskTable
@@ -133,26 +133,11 @@ impl Counted {
     {
         &self.exact
     }
-
-    /// The leaf of the count by the bound that was named: the encoding of the survey (docs/FORMAT.md).
-    /// Memory alone can fail.
-    pub fn bounded_leaf(&self, alloc: Global) -> Result<Vec<u8>, AllocError>
-        ensures { IfOk result (λ bytes. IsFiledLeaf self.now.filed bytes.items) }
-    {
-        leaf_of(alloc, self.bounded())
-    }
-
-    /// The leaf of the count in exact steps: the encoding of the survey (docs/FORMAT.md). Memory alone
-    /// can fail.
-    pub fn exact_leaf(&self, alloc: Global) -> Result<Vec<u8>, AllocError>
-        ensures { IfOk result (λ bytes. IsFiledLeaf (in_exact_steps self.now.filed) bytes.items) }
-    {
-        leaf_of(alloc, self.exact())
-    }
 }
 
-// The leaf of a count.
-fn leaf_of(alloc: Global, filing: &Filing) -> Result<Vec<u8>, AllocError>
+/// The leaf of a count, as bytes: the encoding of the survey by its bound (docs/FORMAT.md). Memory alone can
+/// fail.
+pub fn leaf_of(alloc: Global, filing: &Filing) -> Result<Vec<u8>, AllocError>
     ensures { IfOk result (λ bytes. IsFiledLeaf filing.now bytes.items) }
 {
     let mut buffer = [0; MOST_ANSWER];

@@ -21,7 +21,7 @@ mod troubles;
 mod utilisation;
 
 pub use comparing::compare;
-pub use counted::{Counted, Counting, count_table};
+pub use counted::{Counted, Counting, count_table, leaf_of};
 pub use damage::Damage;
 pub use differences::Difference;
 pub use drawing::plot;

@@ -11,7 +11,7 @@ use filings::Filing;
 use std::alloc::Global;
 use std::io;
 use std::io::Write;
-use views::{Counted, Counting, Printable, Trouble, count_table};
+use views::{Counted, Counting, Printable, Trouble, count_table, leaf_of};
 
 /// Counts a table twice, files both leaves, and prints the table.
 pub(crate) fn file(rt: &HostRuntime, given: &ArgMatches<'_>) -> Result<(), Failed> {
@@ -47,15 +47,16 @@ fn count(rt: &HostRuntime, table: Source<'_>, how: Counting) -> Result<Counted, 
 
 // The two leaves of a table that was counted, to be filed.
 fn drafts(alloc: Global, counted: &Counted, out: &str) -> Result<[Draft; 2], Trouble> {
-    let exact = draft(alloc, out, counted.exact(), counted.exact_leaf(alloc)?)?;
-    let bounded = draft(alloc, out, counted.bounded(), counted.bounded_leaf(alloc)?)?;
+    let exact = draft(alloc, out, counted.exact())?;
+    let bounded = draft(alloc, out, counted.bounded())?;
     Ok([exact, bounded])
 }
 
 // The leaf of a count, to be filed under a name that ends in the short one of its bound.
-fn draft(alloc: Global, out: &str, filing: &Filing, leaf: Vec<u8>) -> Result<Draft, Trouble> {
+fn draft(alloc: Global, out: &str, filing: &Filing) -> Result<Draft, Trouble> {
     let bound = Short(filing.bound());
-    Draft::new(alloc, format!(in alloc; "{out}.{bound}.leaf")?, leaf)
+    let name = format!(in alloc; "{out}.{bound}.leaf")?;
+    Draft::new(alloc, name, leaf_of(alloc, filing)?)
 }
 
 // Prints the table and what was filed of it.
