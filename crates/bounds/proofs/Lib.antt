@@ -1,6 +1,7 @@
+pub mod Ends
 pub mod Fitting
-pub mod Floors
 pub mod Marking
+pub mod Quotients
 pub mod Rises
 pub mod SameTail
 pub mod Numbered

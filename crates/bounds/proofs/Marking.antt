@@ -1,18 +1,16 @@
 -- Flags that are set step by step, from the first instant on.
 use Rattle.std.proofs.Common.{◌≡◌, ℕ, ◌+◌, ◌-◌, ◌<◌, ◌≤◌, Bool, true, false, ◌||◌, List, length, slice_index_or}
 use Rattle.std.proofs.Common.{slice_set, inl, inr, ⊎_elim, ◌⊎◌, ◌≢◌, refl, sym, ◌∙◌, ap, subst, arith}
-use Rattle.std.specs.Prelude.{◌%◌, ◌&&◌, Some, None, Option, MatchOption, nat_le}
-use Rattle.std.proofs.Math.Nat.{mod_self}
-use Rattle.rows.specs.Times.{horizon, is_frame}
-use Rattle.rows.specs.Counting.{is_on_frame}
+use Rattle.std.specs.Prelude.{◌&&◌, Some, None, Option, MatchOption, nat_le}
+use Rattle.rows.specs.Times.{horizon}
 use Rattle.std.proofs.lemmas.Bool.{cases_lt, cases_order, and_from, and_left, and_right, le-leb, lt-leb, leb-true}
-use Rattle.std.proofs.lemmas.Bool.{and_parts, eq-eqb, cond-true, cond-false}
+use Rattle.std.proofs.lemmas.Bool.{and_parts}
 use Rattle.std.proofs.lemmas.List.{length-set, get_or-set_other}
 use Rattle.std.proofs.lemmas.Grind.{get_or-set_at}
 use Rattle.rows.specs.declared.tasks.Row.{Row}
 use Rattle.bounds.specs.Instants.{least, IsFirst}
 use Rattle.bounds.specs.Meaning.{Meaning}
-use Rattle.bounds.specs.Answering.{corner_after, corner_answered}
+use Rattle.bounds.specs.Answering.{corner_after}
 use Rattle.bounds.specs.Marks.{Marks, up_to}
 use Rattle.bounds.specs.Lemmas.Instants.{least_some, least_none, least_after}
 
@@ -159,33 +157,14 @@ least_same p q e d u same = read (least p (e - u) (u + 1)) (least_after p (e - u
         least_past q d u first (omega arith) f.after first.within
 
 module _ (m : Meaning) (r : Row) where
-  -- the frame is one, and the row stands on it
-  abbrev on_own_frame : Bool
-  on_own_frame = is_frame r.period && is_on_frame r.period r
-
-  -- a row stands on the frame that is its own period: there its next corner is answered after every instant
-  pub own_frame : (t : ℕ) → corner_answered m r.period r t ≡ corner_after m r t
-  own_frame t =
-      let frame = and_from (nat_le 1 r.period) (nat_le r.period horizon) (le-leb 1 r.period (omega arith))
-      (le-leb r.period horizon (omega arith)) in
-      let on = and_from (is_frame r.period) (is_on_frame r.period r) frame
-      (eq-eqb (r.period % r.period) 0 (mod_self r.period)) in
-      elim (cases_lt horizon t) [
-        | inl far ↦
-            cond-false _ _ _ (and_right on_own_frame (nat_le t horizon) (lt-leb t horizon far))
-            ∙ sym (least_none (m.is_corner r) (horizon - t) t (λ i low high. absurd (omega arith)))
-        | inr near ↦ cond-true _ _ _ (and_from on_own_frame (nat_le t horizon) on (le-leb t horizon near))
-      ]
-
   -- what a next corner tells that is looked for after t, up to e: the first one, or that there is none
   abbrev CornerTells : ℕ → ℕ → Option ℕ → Type 0
   CornerTells t e o = MatchOption o ((i : ℕ) → t < i → i ≤ e → m.is_corner r i ≡ false) (IsFirst (m.is_corner r) t e)
 
-  -- on that frame the answer tells it of every instant up to the horizon
-  pub own_corner : (t : ℕ) (o : Option ℕ) → o ≡ corner_answered m r.period r t → CornerTells t horizon o
-  own_corner t o answer =
-      read o (subst (CornerTells t (t + (horizon - t))) (sym (answer ∙ own_frame t))
-      (least_after (m.is_corner r) (horizon - t) t))
+  -- the answer tells it of every instant up to the horizon
+  pub next_corner_tells : (t : ℕ) (o : Option ℕ) → o ≡ corner_after m r t → CornerTells t horizon o
+  next_corner_tells t o answer =
+      read o (subst (CornerTells t (t + (horizon - t))) (sym answer) (least_after (m.is_corner r) (horizon - t) t))
     where
       read : (o : Option ℕ) → CornerTells t (t + (horizon - t)) o → CornerTells t horizon o
       read None none = λ i low high. none i low (omega arith)

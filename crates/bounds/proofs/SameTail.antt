@@ -2,15 +2,18 @@
 use Rattle.std.proofs.Common.{◌≡◌, ◌≤◌}
 use mathlib.Core.HLevel.{is_prop→PathP}
 use Rattle.std.proofs.Math.Bridge.{le_prop}
-use Rattle.bounds.specs.declared.linear.LinearTail.{LinearTail}
+use Rattle.bounds.specs.declared.linear.Line.{Line}
+use Rattle.bounds.specs.declared.tails.Tail.{Tail}
 use Rattle.bounds.specs.Meaning.{finest}
 use Rattle.bounds.specs.Values.{accuracy_of}
 
 -- tails of the same accuracy are the same tail
-pub same_tail : (s t : LinearTail) → accuracy_of s ≡ accuracy_of t → s ≡ t
+pub same_tail : (s t : Tail Line) → accuracy_of s ≡ accuracy_of t → s ≡ t
 same_tail s t same =
     λ i. record {
-      accuracy = same i;
-      low = is_prop→PathP (λ j. 1 ≤ same j) (λ j. le_prop) s.low t.low i;
-      high = is_prop→PathP (λ j. same j ≤ finest) (λ j. le_prop) s.high t.high i;
+      late = record {
+        accuracy = same i;
+        low = is_prop→PathP (λ j. 1 ≤ same j) (λ j. le_prop) s.late.low t.late.low i;
+        high = is_prop→PathP (λ j. same j ≤ finest) (λ j. le_prop) s.late.high t.late.high i;
+      };
     }

@@ -1,5 +1,5 @@
 -- What a bound of some meaning answers.
-use Rattle.std.specs.Prelude.{IsTrue, ℕ, ◌+◌, ◌-◌, ◌≤◌, None, Option, nat_le, if◌then◌else◌}
+use Rattle.std.specs.Prelude.{ℕ, ◌+◌, ◌-◌, None, Option, if◌then◌else◌}
 use Rattle.rows.specs.declared.tasks.Row.{Row}
 use Rattle.rows.specs.Times.{horizon}
 use Rattle.bounds.specs.Instants.{least}
@@ -16,11 +16,3 @@ corner_after m r t = least (m.is_corner r) (horizon - t) (t + 1)
 -- the next corner that it answers: none where it has nothing to answer
 abbrev pub corner_answered : Meaning → ℕ → Row → ℕ → Option ℕ
 corner_answered m h r t = if is_asked h r t then corner_after m r t else None
-
--- x is nowhere above the row's amount at the instant t, nor at any later one at which the bound is asked
-abbrev pub IsFloor : Meaning → ℕ → Row → ℕ → ℕ → Type 0
-IsFloor m h r t x = (u : ℕ) → t ≤ u → IsTrue (is_asked h r u) → x ≤ m.amount h r u
-
--- what a bound whose amounts never fall answers: its own amount up to the horizon, and past that 0
-abbrev pub own_floor : Meaning → ℕ → Row → ℕ → ℕ
-own_floor m h r t = if nat_le t horizon then m.amount h r t else 0

@@ -4,5 +4,6 @@ pub mod Instants
 pub mod Asking
 pub mod Corners
 pub mod ExactLaws
-pub mod LinearLaws
+pub mod Lines
+pub mod TailLaws
 pub mod SuppliedLaws

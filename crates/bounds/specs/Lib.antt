@@ -1,8 +1,11 @@
 pub mod Instants
 pub mod Meaning
 pub mod Answering
+pub mod Ratios
+pub mod Questions
 pub mod Marks
 pub mod Laws
+pub mod Tails
 pub mod Supplied
 pub mod Values
 pub mod Families

@@ -29,6 +29,10 @@ is_accuracy k = nat_le 1 k && nat_le k finest
 abbrev pub accuracy_checks : ℕ → List Check
 accuracy_checks k = check (not (is_accuracy k)) BadAccuracy 0 ∷ []
 
--- a bound has something to answer: the frame is one, the row stands on it, and the instant is not past the horizon
+-- a bound can be asked about a row on a frame: a number is one, and the row stands on it
+abbrev pub can_be_asked : ℕ → Row → Bool
+can_be_asked h r = is_frame h && is_on_frame h r
+
+-- a bound has something to answer: the row stands on the frame, and the instant is not past the horizon
 abbrev pub is_asked : ℕ → Row → ℕ → Bool
-is_asked h r t = is_frame h && is_on_frame h r && nat_le t horizon
+is_asked h r t = can_be_asked h r && nat_le t horizon

@@ -1,24 +1,23 @@
 -- What the supplied bounds mean: exact steps and the linear tail.
-use Rattle.std.specs.Prelude.{ℕ, ◌+◌, ◌-◌, ◌*◌, ◌/◌, Bool, ◌&&◌, nat_le, if◌then◌else◌}
+use Rattle.std.specs.Prelude.{ℕ, ◌+◌, ◌-◌, ◌*◌, ◌/◌}
 use Rattle.rows.specs.declared.tasks.Row.{Row}
 use Rattle.rows.specs.Times.{horizon}
 use Rattle.rows.specs.Counting.{steps, is_rise}
 use Rattle.bounds.specs.Meaning.{Meaning, finest}
+use Rattle.bounds.specs.Tails.{Shape, tail}
 
 -- the exact steps, in parts
 abbrev pub exact_steps : Meaning
 exact_steps = record { amount = λ h r t. h * steps r t; is_corner = is_rise; accuracy = finest; most = horizon }
 
--- t is not past (k − 1) × period − jitter, where the linear tail begins
-abbrev pub is_before_tail : ℕ → Row → ℕ → Bool
-is_before_tail k r t = nat_le (t + r.jitter) ((k - 1) * r.period)
+-- a straight line that lies on or above the steps of a row
+abbrev pub line : ℕ → Row → ℕ → ℕ
+line h r t = h * r.work + (t + r.jitter) * r.work * (h / r.period)
 
--- the linear tail of accuracy k: exact up to its beginning, then a straight line that lies on or above the steps
+-- the shape of the linear tail of accuracy k: the line, past k − 1 exact releases
+abbrev pub line_shape : ℕ → Shape
+line_shape k = record { late = line; accuracy = k; exact = k - 1 }
+
+-- the linear tail of accuracy k: exact for k − 1 releases, then the line
 abbrev pub linear_tail : ℕ → Meaning
-linear_tail k = record {
-  amount = λ h r t. if is_before_tail k r t then h * steps r t
-      else h * r.work + (t + r.jitter) * r.work * (h / r.period);
-  is_corner = λ r t. is_rise r t && is_before_tail k r t;
-  accuracy = k;
-  most = k - 1;
-}
+linear_tail k = tail (line_shape k)

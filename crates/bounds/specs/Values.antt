@@ -1,14 +1,19 @@
 -- What a caller may know of the supplied bounds as values.
 use Rattle.std.specs.Prelude.{ℕ}
-use Rattle.bounds.specs.declared.linear.LinearTail.{LinearTail}
+use Rattle.bounds.specs.declared.linear.Line.{Line}
+use Rattle.bounds.specs.declared.tails.Tail.{Tail}
 use Rattle.bounds.specs.declared.supplied.Supplied.{Supplied}
 use Rattle.bounds.specs.declared.supplied.Supplied.TheVariants.{ExactSteps as exact, LinearTail as tail}
 use Rattle.bounds.specs.Meaning.{Meaning}
 use Rattle.bounds.specs.Supplied.{exact_steps, linear_tail}
 
+-- the accuracy of a line
+abbrev pub accuracy_of_line : Line → ℕ
+accuracy_of_line l = l.accuracy
+
 -- the accuracy of a linear tail
-abbrev pub accuracy_of : LinearTail → ℕ
-accuracy_of t = t.accuracy
+abbrev pub accuracy_of : Tail Line → ℕ
+accuracy_of t = accuracy_of_line t.late
 
 -- what a supplied bound means
 abbrev pub meaning_of : Supplied → Meaning

@@ -5,11 +5,15 @@ mod exact;
 mod families;
 mod interface;
 mod linear;
+mod questions;
 mod releases;
 mod supplied;
+mod tails;
 
 pub use exact::ExactSteps;
 pub use families::{Family, Short};
-pub use interface::{Bound, FINEST, asked};
-pub use linear::LinearTail;
+pub use interface::{Bound, FINEST};
+pub use linear::{Line, LinearTail};
+pub use questions::{Asked, OnFrame};
 pub use supplied::Supplied;
+pub use tails::{Late, Tail};

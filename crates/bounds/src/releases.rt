@@ -9,7 +9,7 @@ use rows::Row;
 
 // The first instant after the given one just after which the row's steps rise.
 #[tactic(auto, using(crate::proofs::Rises::first_rise))]
-pub(crate) fn next_rise(row: &Row, after: u32) -> u32
+fn next_rise(row: &Row, after: u32) -> u32
     requires { after ≤ horizon }
     ensures { IsFirst (is_rise row.now) after (after + row.now.period) result }
 {
@@ -40,4 +40,12 @@ pub(crate) fn mark_rises(row: &Row, after: u32, last: u32, marks: &mut [bool]) -
     } else {
         None
     }
+}
+
+// The first rise after an instant, up to `last`.
+pub(crate) fn rise_after(row: &Row, after: u32, last: u32) -> Option<u32>
+    requires { last ≤ horizon }
+    ensures { result ≡ least (is_rise row.now) (last - after) (after + 1) }
+{
+    mark_rises(row, after, last, &mut [])
 }

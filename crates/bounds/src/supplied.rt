@@ -2,6 +2,7 @@
 use crate::exact::ExactSteps;
 use crate::interface::Bound;
 use crate::linear::LinearTail;
+use crate::questions::Asked;
 use rows::Row;
 
 /// A bound that the toolkit supplies, as a value: by it a program counts with whichever bound its
@@ -26,8 +27,6 @@ macro_rules! ask {
 }
 
 impl Bound for Supplied {
-    ghost use Rattle.std.specs.Prelude.{◌≡◌};
-    ghost use Rattle.bounds.specs.Answering.{IsFloor, own_floor};
     ghost use Rattle.bounds.specs.Values.{meaning_of};
     ghost use Rattle.bounds.specs.Lemmas.SuppliedLaws.{laws_of};
 
@@ -35,19 +34,12 @@ impl Bound for Supplied {
 
     ghost lawful = { laws_of };
 
-    fn amount(&self, frame: u32, row: &Row, at: u32) -> u64 {
-        ask!(self, bound => bound.amount(frame, row, at))
+    fn amount_asked(&self, question: &Asked) -> u64 {
+        ask!(self, bound => bound.amount_asked(question))
     }
 
-    fn floor(&self, frame: u32, row: &Row, at: u32) -> u64
-        ensures under { IsFloor (meaning_of self.now) frame row.now at result }
-        ensures own { result ≡ own_floor (meaning_of self.now) frame row.now at }
-    {
-        ask!(self, bound => bound.floor(frame, row, at))
-    }
-
-    fn next_corner(&self, frame: u32, row: &Row, after: u32) -> Option<u32> {
-        ask!(self, bound => bound.next_corner(frame, row, after))
+    fn corner_after(&self, row: &Row, after: u32) -> Option<u32> {
+        ask!(self, bound => bound.corner_after(row, after))
     }
 
     fn mark(&self, row: &Row, after: u32, marks: &mut [bool]) -> Option<u32> {

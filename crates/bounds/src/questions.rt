@@ -1,0 +1,163 @@
+// Questions to which a bound has something to answer, as values that only a check makes.
+ghost use Rattle.std.specs.Prelude.{IsTrue, ◌≡◌, ◌/◌, ◌<◌, ◌^◌};
+ghost use Rattle.rows.specs.Counting.{steps};
+ghost use Rattle.bounds.specs.Meaning.{can_be_asked, is_asked};
+ghost use Rattle.bounds.specs.Ratios.{ratio_of};
+
+use rows::{HORIZON, Row, is_frame};
+
+/// A question: how much a row on a frame can demand up to an instant. There is none but where a bound
+/// has something to answer (docs/RULES.md, Bounds). `new` makes it, and `OnFrame::at`.
+#[derive(Clone, Copy, Debug)]
+pub struct Asked<'a> {
+    frame: u32,
+    row: &'a Row,
+    at: u32,
+    steps: u32,
+    ghost asked: { IsTrue (is_asked frame row.now at) },
+    ghost counted: { steps ≡ Rattle.rows.specs.Counting.steps row.now at },
+}
+
+impl<'a> Asked<'a> {
+    ghost use Rattle.std.specs.Prelude.{false, MatchOption, ◌≡◌, ◌≤◌, ◌*◌};
+    ghost use Rattle.rows.specs.Counting.{steps};
+    ghost use Rattle.rows.specs.Times.{horizon};
+    ghost use Rattle.bounds.specs.Questions.{IsQuestion, asked_at, asked_frame, asked_row};
+
+    /// The question of a frame in ticks, a row and an instant. There is none where the frame is 0 or past
+    /// the horizon, where the period does not divide it, or where the instant is past the horizon.
+    pub fn new(frame: u32, row: &'a Row, at: u32) -> Option<Asked<'a>>
+        ensures { MatchOption result (is_asked frame row.now at ≡ false)
+            (λ q. (asked_frame q ≡ frame) × (asked_row q ≡ row.now) × (asked_at q ≡ at)) }
+    {
+        if !can_be_asked(frame, row) || at > HORIZON {
+            return None;
+        }
+        Some(Asked {
+            frame,
+            row,
+            at,
+            steps: row.steps(at) as u32,
+        })
+    }
+
+    /// The frame, in ticks.
+    pub fn frame(&self) -> u32
+        ensures answered { result ≡ asked_frame self.now }
+        ensures near { result ≤ horizon }
+    {
+        self.frame
+    }
+
+    /// The row, whose period divides the frame.
+    pub fn row(&self) -> &'a Row
+        ensures answered { result.now ≡ asked_row self.now }
+        ensures asked { IsQuestion self.now }
+    {
+        self.row
+    }
+
+    /// The instant, up to the horizon.
+    pub fn at(&self) -> u32
+        ensures answered { result ≡ asked_at self.now }
+        ensures near { result ≤ horizon }
+    {
+        self.at
+    }
+
+    /// The exact steps of the row at the instant, in units of work.
+    pub fn steps(&self) -> u32
+        ensures answered { result ≡ steps (asked_row self.now) (asked_at self.now) }
+        ensures few { result ≤ 3 * horizon }
+    {
+        self.steps
+    }
+}
+
+/// A row that stands on a frame, with what saves a division at each question about it. `new` makes it.
+#[derive(Clone, Copy, Debug)]
+pub struct OnFrame {
+    frame: u32,
+    row: Row,
+    ratio: u32,
+    ghost on: { IsTrue (can_be_asked frame row) },
+    ghost known: { ratio ≡ ratio_of row },
+}
+
+// What a place of a list holds that no row has been put into.
+impl Default for OnFrame {
+    fn default() -> OnFrame {
+        OnFrame {
+            frame: 1,
+            row: Row {
+                work: 1,
+                deadline: 1,
+                period: 1,
+                jitter: 0,
+            },
+            ratio: u32::MAX,
+        }
+    }
+}
+
+// Whether a number is a frame that the row stands on.
+fn can_be_asked(frame: u32, row: &Row) -> bool
+    ensures { result ≡ can_be_asked frame row.now }
+{
+    is_frame(frame) && row.divides(frame)
+}
+
+// A number divided by the period of a row whose ratio is known: the product by the ratio is at most
+// one too low.
+fn quotient(x: u32, row: &Row, ratio: u32) -> u32
+    requires known { ratio ≡ ratio_of row.now }
+    requires room { x < 2 ^ 31 }
+    ensures { result ≡ x / row.now.period }
+{
+    let told = (u64::from(x) * u64::from(ratio) / 4_294_967_296) as u32;
+    if x - told * row.period < row.period {
+        told
+    } else {
+        told + 1
+    }
+}
+
+impl OnFrame {
+    ghost use Rattle.std.specs.Prelude.{false, MatchOption, ◌≡◌, ◌<◌};
+    ghost use Rattle.rows.specs.Times.{horizon};
+    ghost use Rattle.bounds.specs.Questions.{asked_at, asked_frame, asked_row, frame_under, row_on};
+
+    /// The row on a frame, in ticks. There is none where the frame is 0 or past the horizon, and where
+    /// the period does not divide it.
+    pub fn new(frame: u32, row: &Row) -> Option<OnFrame>
+        ensures { MatchOption result (can_be_asked frame row.now ≡ false)
+            (λ s. (frame_under s ≡ frame) × (row_on s ≡ row.now)) }
+    {
+        if !can_be_asked(frame, row) {
+            return None;
+        }
+        Some(OnFrame {
+            frame,
+            row: *row,
+            ratio: u32::MAX / row.period,
+        })
+    }
+
+    /// The question about the row at an instant. There is none past the horizon.
+    pub fn at(&self, at: u32) -> Option<Asked<'_>>
+        ensures { MatchOption result (horizon < at)
+            (λ q. (asked_frame q ≡ frame_under self.now) × (asked_row q ≡ row_on self.now) × (asked_at q ≡ at)) }
+    {
+        if at > HORIZON {
+            return None;
+        }
+        let row = &self.row;
+        let jobs = quotient(at + row.jitter + (row.period - 1), row, self.ratio);
+        Some(Asked {
+            frame: self.frame,
+            row,
+            at,
+            steps: row.work * jobs,
+        })
+    }
+}
