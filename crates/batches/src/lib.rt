@@ -9,7 +9,7 @@ ghost use Rattle.batches.specs.Batching.{job_count};
 
 mod errors;
 
-use bounds::{Bound, ExactSteps, FINEST, asked};
+use bounds::{Asked, Bound, ExactSteps, FINEST};
 pub use errors::BatchError;
 use rows::{HORIZON, Refusal, Row};
 
@@ -78,8 +78,6 @@ impl Batches {
 }
 
 impl Bound for Batches {
-    ghost use Rattle.bounds.specs.Answering.{IsFloor, own_floor};
-    ghost use Rattle.bounds.specs.Supplied.{exact_steps};
     ghost use Rattle.batches.specs.Batching.{batches};
     ghost use Rattle.batches.specs.Making.{parameters_of};
     ghost use Rattle.batches.specs.Lemmas.BatchLaws.{batches_laws};
@@ -88,31 +86,16 @@ impl Bound for Batches {
 
     ghost lawful = { batches_laws };
 
-    fn amount(&self, frame: u32, row: &Row, at: u32) -> u64 {
-        if !asked(frame, row, at) {
-            return 0;
-        }
-        let jobs = self.batch_count(job_count(row, at));
-        u64::from(frame) * (u64::from(row.work) * jobs)
-    }
-
-    // The exact steps: batches have no amount below them.
-    fn floor(&self, frame: u32, row: &Row, at: u32) -> u64
-        ensures under { IsFloor (batches (parameters_of self.now)) frame row.now at result }
-        ensures own { result ≡ own_floor exact_steps frame row.now at }
-    {
-        ExactSteps.floor(frame, row, at)
+    fn amount_asked(&self, question: &Asked) -> u64 {
+        let row = question.row();
+        let jobs = self.batch_count(job_count(row, question.at()));
+        u64::from(question.frame()) * (u64::from(row.work) * jobs)
     }
 
     // Every instant at which exact steps rise: more corners than the amount has bends, which the
     // laws allow.
-    fn next_corner(&self, frame: u32, row: &Row, after: u32) -> Option<u32> {
-        ExactSteps.next_corner(frame, row, after)
-    }
-
-    // The corners are those of exact steps, whose flags are set by one addition each.
-    fn mark(&self, row: &Row, after: u32, marks: &mut [bool]) -> Option<u32> {
-        ExactSteps.mark(row, after, marks)
+    fn corner_after(&self, row: &Row, after: u32) -> Option<u32> {
+        ExactSteps.corner_after(row, after)
     }
 
     fn accuracy(&self) -> u32 {

@@ -5,7 +5,9 @@ use Rattle.std.proofs.lemmas.Bool.{cases_lt}
 use Rattle.rows.specs.declared.tasks.Row.{Row}
 use Rattle.rows.specs.Counting.{steps}
 use Rattle.bounds.specs.Laws.{Laws}
+use Rattle.bounds.specs.declared.questions.Asked.{Asked}
 use Rattle.bounds.specs.Meaning.{Meaning, is_asked}
+use Rattle.bounds.specs.Questions.{IsQuestion, amount_asked, asked_at, asked_frame, asked_row}
 use Rattle.bounds.specs.Lemmas.Asking.{most_parts, asked_tells, steps_fit}
 
 -- the largest amount that any bound can have: twice what the exact steps can have
@@ -31,3 +33,7 @@ amount_small {m} laws h r t ask =
 -- every amount that is asked for fits 64 bits
 pub amount_fits : {m : Meaning} → Laws m → (h : ℕ) (r : Row) (t : ℕ) → is_asked h r t ≡ true → m.amount h r t < 2 ^ 64
 amount_fits laws h r t ask = omega (arith, amount_small laws h r t ask)
+
+-- so does the amount of every question
+pub asked_fits : {m : Meaning} → Laws m → (q : Asked) → IsQuestion q → amount_asked m q < 2 ^ 64
+asked_fits laws q ask = amount_fits laws (asked_frame q) (asked_row q) (asked_at q) ask

@@ -4,7 +4,7 @@ ghost use Rattle.bounds.specs.Lemmas.ExactLaws.{exact_laws};
 
 use crate::agreeing::agree;
 use crate::building::row;
-use bounds::{Bound, ExactSteps, LinearTail, Supplied, asked};
+use bounds::{Asked, Bound, ExactSteps, LinearTail, OnFrame, Supplied};
 use rows::{Fault, HORIZON, Refusal, Row};
 use std::process::Abort;
 
@@ -73,13 +73,41 @@ static NOT_ASKED: [(u32, u32); 5] = [
 #[test]
 fn nothing_to_answer(rt: HostRuntime) {
     let b = row(2, 6, 6, 1);
-    let far = [asked(12, &b, HORIZON), asked(12, &b, HORIZON + 1)];
-    agree(&rt, far, [true, false]);
+    let asked = |at| Asked::new(12, &b, at).is_some();
+    agree(&rt, [asked(HORIZON), asked(HORIZON + 1)], [true, false]);
     for &(frame, at) in &NOT_ASKED {
         let amount = ExactSteps.amount(frame, &b, at);
         let corner = ExactSteps.next_corner(frame, &b, at);
         agree(&rt, (amount, corner), (0, None));
     }
+}
+
+// The steps of a row at an instant, asked about on the frame that is its period, where they are counted
+// with no division.
+fn steps(row: &Row, at: u32) -> Option<u32> {
+    let on = OnFrame::new(row.period, row)?;
+    Some(on.at(at)?.steps())
+}
+
+// B has two jobs up to 11 and three up to 12; the others are the most and the fewest that there can be.
+#[test]
+fn steps_of_rows_on_a_frame(rt: HostRuntime) {
+    let b = row(2, 6, 6, 1);
+    let few = [
+        steps(&b, 0),
+        steps(&b, 11),
+        steps(&b, 12),
+        steps(&b, HORIZON + 1),
+    ];
+    agree(&rt, few, [Some(2), Some(4), Some(6), None]);
+    let (short, long) = (row(1, 1, 1, 0), row(HORIZON, HORIZON, HORIZON, 0));
+    let many = [
+        steps(&short, 0),
+        steps(&short, HORIZON),
+        steps(&long, HORIZON),
+    ];
+    agree(&rt, many, [Some(0), Some(HORIZON), Some(HORIZON)]);
+    agree(&rt, OnFrame::new(13, &b).is_some(), false);
 }
 
 // All that a bound answers about B at 6 on a frame of 12, after it, and about itself.
@@ -108,12 +136,12 @@ impl Bound for CornerByCorner {
 
     ghost lawful = { λ s. exact_laws };
 
-    fn amount(&self, frame: u32, row: &Row, at: u32) -> u64 {
-        ExactSteps.amount(frame, row, at)
+    fn amount_asked(&self, question: &Asked) -> u64 {
+        ExactSteps.amount_asked(question)
     }
 
-    fn next_corner(&self, frame: u32, row: &Row, after: u32) -> Option<u32> {
-        ExactSteps.next_corner(frame, row, after)
+    fn corner_after(&self, row: &Row, after: u32) -> Option<u32> {
+        ExactSteps.corner_after(row, after)
     }
 
     fn accuracy(&self) -> u32 {
@@ -123,24 +151,6 @@ impl Bound for CornerByCorner {
     fn most(&self) -> u32 {
         ExactSteps.most()
     }
-}
-
-// What B is sure to demand on a frame of 12 from 11, from 12 and from past the horizon on.
-fn floors<B: Bound>(bound: &B) -> (u64, u64, u64) {
-    let b = row(2, 6, 6, 1);
-    let before = bound.floor(12, &b, 11);
-    let after = bound.floor(12, &b, 12);
-    (before, after, bound.floor(12, &b, HORIZON + 1))
-}
-
-// B has two jobs up to 11 and three up to 12; the tail of accuracy 3 begins just past 11.
-#[test]
-fn floors_before_and_on_the_tail(rt: HostRuntime) {
-    let steps = [floors(&ExactSteps), floors(&Supplied::ExactSteps)];
-    agree(&rt, steps, [(48, 72, 0); 2]);
-    let tail = tail(&rt, 3);
-    let line = [floors(&tail), floors(&Supplied::LinearTail(tail))];
-    agree(&rt, line, [(48, 76, 0); 2]);
 }
 
 // Eight flags for the instants just after one, of which the flag at 2 was set before, as a bound

@@ -4,7 +4,8 @@ use Rattle.std.proofs.Common.{refl, ◌∙◌, subst, ⊎_elim, arith}
 use Rattle.std.proofs.lemmas.Bool.{and_parts, and_right, cases_lt, cases_order, lt-leb, ne_eqb, or_from}
 use Rattle.rows.specs.Counting.{is_rise}
 use Rattle.bounds.specs.Instants.{least, count}
-use Rattle.bounds.specs.Supplied.{is_before_tail, linear_tail}
+use Rattle.bounds.specs.Supplied.{linear_tail}
+use Rattle.bounds.specs.Tails.{is_exact}
 use Rattle.findings.specs.Findings.{first_rest, stop, points}
 use Rattle.brackets.specs.Speeds.{rest_at_speed}
 use Rattle.worked.specs.Table.{Worked, row_b}
@@ -32,7 +33,7 @@ corners_of_b : (t : ℕ) → (linear_tail 3).is_corner row_b t ≡ (eqb t 5 || e
 corners_of_b t =
     ⊎_elim (λ (early : t < 12). agrees ((linear_tail 3).is_corner row_b) (λ k. eqb k 5 || eqb k 11) 12 t refl early)
     (λ (late : 12 ≤ t).
-    and_right (is_rise row_b t) (is_before_tail 3 row_b t) (lt-leb (t + 1) 12 (omega arith))
+    and_right (is_rise row_b t) (is_exact 2 row_b t) (lt-leb (t + 1) 12 (omega arith))
     ∙ sym (or_from (eqb t 5) (eqb t 11) (ne_eqb t 5 (λ e. omega arith)) (ne_eqb t 11 (λ e. omega arith))))
     (cases_lt t 12)
 

@@ -2,11 +2,13 @@
 use Rattle.std.specs.Prelude.{◌≡◌, ℕ, zero, suc, ◌+◌, ◌-◌, ◌*◌, ◌/◌, ◌<◌, ◌≤◌}
 use Rattle.std.proofs.Common.{sym, ap, ◌∙◌, lt_of_mul-lt-mul_right, arith}
 use Rattle.std.proofs.lemmas.Nat.{mul-le}
+use Rattle.std.proofs.lemmas.Bool.{cond_both}
 use Rattle.rows.specs.declared.tasks.Row.{Row}
 use Rattle.rows.specs.Times.{ceiling}
 use Rattle.rows.specs.Counting.{steps}
 use Rattle.rows.proofs.Ceiling.{ceiling_covers, ceiling_tight}
-use Rattle.bounds.specs.Supplied.{line}
+use Rattle.bounds.specs.Supplied.{line, linear_tail}
+use Rattle.bounds.specs.Tails.{is_exact}
 
 -- the work of a row, for each of its periods in the frame
 abbrev pub share : ℕ → Row → ℕ
@@ -44,3 +46,9 @@ module _ (h : ℕ) (r : Row) (t : ℕ) (divides : h / r.period * r.period ≡ h)
       let both = mul-le (share h r) (k * (r.period + (t + r.jitter))) (share h r) ((k + 1) * (r.period * jobs))
       (omega arith) (omega arith) in
       rw (steps_shared, line_shared) (omega arith)
+
+  -- and no amount of a linear tail is above it
+  pub below_line : (k : ℕ) → (linear_tail k).amount h r t ≤ line h r t
+  below_line k =
+      cond_both (is_exact (k - 1) r t) (h * steps r t) (line h r t) (λ x. x ≤ line h r t) (λ _. line_covers)
+      (λ _. omega arith)
