@@ -1,0 +1,2 @@
+pub mod Trials
+pub mod Shown
