@@ -1,6 +1,6 @@
 pub mod Turning
 pub mod Amounts
-pub mod Floors
+pub mod Exacts
 pub mod Nearest
 pub mod Points
 pub mod SetFlags

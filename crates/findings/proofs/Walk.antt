@@ -9,7 +9,6 @@ use Rattle.bounds.specs.Instants.{least, count, IsFirst, OnceThenOn}
 use Rattle.bounds.specs.Laws.{Laws}
 use Rattle.bounds.specs.Lemmas.Instants.{least_after, least_some, least_none, least_up_to}
 use Rattle.findings.specs.Demand.{Load, is_rest}
-use Rattle.findings.specs.Floors.{NoneBetween}
 use Rattle.findings.specs.Points.{is_bend}
 use Rattle.rows.specs.Found.{Found}
 use Rattle.findings.specs.Findings.{first_rest, is_tested, is_resting_point, stop, points, load_finding, Says}
@@ -41,15 +40,14 @@ start l last laws stands busy = record {
 up_to_and_after : {P : Type 0} (b i : ℕ) → (i ≤ b → P) → (b < i → P) → P
 up_to_and_after b i old new = ⊎_elim new old (cases_lt b i)
 
--- where neither t nor any later instant before it is a rest, the walk goes on to t
-pub skip_to : (l : Load) (last late t : ℕ) → Walked l last late → t ≤ last → NoneBetween l late t → is_rest l t ≡ false
+-- where neither t nor any instant before it is a rest, the walk has come to t
+pub reached : (l : Load) (last t : ℕ) → t ≤ last → ((i : ℕ) → i < t → is_rest l i ≡ false) → is_rest l t ≡ false
     → Walked l last t
-skip_to l last late t walked within none here = record {
+reached l last t within none here = record {
   within = within;
   none = λ i low.
-      up_to_and_after late i (walked.none i)
-      (λ new. ⊎_elim (λ before. none i new before)
-      (λ from. let e : t ≡ i = omega arith in subst (λ j. is_rest l j ≡ false) e here) (cases_lt i t));
+      ⊎_elim (λ before. none i before)
+      (λ from. let e : t ≡ i = omega arith in subst (λ j. is_rest l j ≡ false) e here) (cases_lt i t);
 }
 
 module _ (l : Load) (last : ℕ) (laws : Laws l.bound) (stands : StandOn l.frame l.above) (near : last ≤ horizon) where
@@ -108,15 +106,15 @@ module _ (l : Load) (last late point rest : ℕ) (walked : Walked l last late)
 
 module _ (l : Load) (last : ℕ) where
   -- an instant that is a rest, and before which there is none, is the first rest
-  pub meets_at : (late t : ℕ) → Walked l last late → late < t → t ≤ last → NoneBetween l late t → is_rest l t ≡ true
+  pub meets_first : (t : ℕ) → 1 ≤ t → t ≤ last → ((i : ℕ) → i < t → is_rest l i ≡ false) → is_rest l t ≡ true
       → first_rest l last ≡ Some t
   unfolding first_rest
-  meets_at late t walked later within none here =
+  meets_first t some within none here =
       let first : IsFirst (is_rest l) 0 last t = record {
-        after = omega arith;
+        after = some;
         within = within;
         holds = here;
-        none = λ i low early. up_to_and_after late i (walked.none i) (λ new. none i new early);
+        none = λ i low early. none i early;
       } in
       least_some (is_rest l) last 0 last t first (omega arith)
 

@@ -1,10 +1,12 @@
 pub mod Demand
-pub mod Floors
+pub mod Served
+pub mod Lines
 pub mod Points
 pub mod Findings
 pub mod Tables
 pub mod Asking
 pub mod Countable
+pub mod Prepared
 pub mod Loads
 pub mod Counting
 pub mod Exact

@@ -7,6 +7,7 @@ ghost use Rattle.rows.specs.Found.{tells};
 ghost use Rattle.findings.specs.Findings.{row_finding, RowSays};
 
 use crate::loads::Load;
+use crate::preparing::Prepared;
 use bounds::Bound;
 use rows::{Fault, Finding, MOST_ROWS, Refusal, Row, Table};
 
@@ -43,5 +44,8 @@ pub fn find<B: Bound>(bound: &B, row: &Row, above: &Table) -> Result<Finding, Fa
     ensures judged { OnOk result (IsJudged above.now) }
 {
     check_question(row, above)?;
-    Ok(Load::new(bound, above.frame(), row.work, above.rows()).search(row.window()))
+    let frame = above.frame();
+    let rows = above.rows();
+    let prepared = Prepared::of(bound, frame, rows);
+    Ok(Load::new(bound, frame, row.work, rows, &prepared).finding(row.window()))
 }

@@ -1,6 +1,8 @@
 // The demand of a load at an instant, and the next instant to test.
-ghost use Rattle.std.specs.Prelude.{◌≡◌, ◌<◌, ◌≤◌, fold, min};
+ghost use Rattle.std.specs.Prelude.{◌≡◌, ◌<◌, ◌≤◌, fold, get_or, length, min};
 ghost use Rattle.std.specs.List.{filter_map};
+ghost use Rattle.rows.specs.declared.tasks.Row.{Row as TheRow};
+ghost use Rattle.rows.specs.Counting.{steps};
 ghost use Rattle.rows.specs.Times.{horizon};
 ghost use Rattle.bounds.specs.Answering.{corner_after};
 ghost use Rattle.bounds.specs.Instants.{IsFirst};
@@ -9,15 +11,26 @@ ghost use Rattle.findings.specs.Demand.{load, above_demand, demand, is_rest};
 ghost use Rattle.findings.specs.Findings.{is_tested};
 ghost use Rattle.findings.specs.Countable.{CanBeCounted};
 ghost use Rattle.findings.specs.Loads.{load_of};
+ghost use Rattle.findings.specs.Prepared.{Prepares};
+ghost use Rattle.findings.specs.Served.{exact_of};
 
 use crate::loads::Load;
+use crate::preparing::Prepared;
 use bounds::Bound;
 use rows::{Frame, Row};
 
 impl<'a, B: Bound> Load<'a, B> {
     // The load of some own work below rows that passed their checks.
-    pub(crate) fn new(bound: &'a B, frame: &Frame, own: u32, above: &'a [Row]) -> Self
-        requires { CanBeCounted most_above frame.now.ticks above.now }
+    pub(crate) fn new(
+        bound: &'a B,
+        frame: &Frame,
+        own: u32,
+        above: &'a [Row],
+        prepared: &'a Prepared,
+    ) -> Self
+        requires countable { CanBeCounted most_above frame.now.ticks above.now }
+        requires small { own ≤ horizon }
+        requires kept { Prepares (B.meaning bound.now) frame.now.ticks above.now prepared.now }
         ensures { load_of result ≡ load (B.meaning bound.now) frame.now.ticks own above.now }
     {
         Load {
@@ -25,7 +38,29 @@ impl<'a, B: Bound> Load<'a, B> {
             frame: frame.ticks(),
             own,
             above,
+            prepared,
         }
+    }
+
+    // The exact steps of the row at a place above.
+    fn steps_of(&self, place: usize, at: u32) -> u32
+        requires there { place < length self.now.above.now }
+        requires near { at ≤ horizon }
+        ensures { (d : TheRow) → result ≡ steps (get_or self.now.above.now place d) at }
+    {
+        self.above[place].steps(at) as u32
+    }
+
+    // The exact demand up to the instant, in units of work.
+    pub(crate) fn exact(&self, at: u32) -> u32
+        requires near { at ≤ horizon }
+        ensures { result ≡ exact_of (load_of self.now) at }
+    {
+        let mut demand = self.own;
+        for i in 0..self.above.len() {
+            demand += self.steps_of(i, at);
+        }
+        demand
     }
 
     // What the rows above can demand up to the instant, in parts.

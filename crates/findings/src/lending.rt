@@ -11,6 +11,7 @@ ghost use Rattle.findings.specs.Lent.{IsNextPoint, demand_told, lent_load, lent_
 
 use crate::asking::check_question;
 use crate::loads::Load;
+use crate::preparing::Prepared;
 use crate::questions::Demand;
 use bounds::Bound;
 use rows::{Fault, Finding, HORIZON, Row, Table};
@@ -27,11 +28,17 @@ impl<'a, B: Bound> Demand<'a, B> {
         ensures window { IfOk result (λ d. lent_window d ≡ window row.now) }
     {
         check_question(row, above)?;
-        Ok(Demand { bound, row, above })
+        let prepared = Prepared::of(bound, above.frame(), above.rows());
+        Ok(Demand {
+            bound,
+            row,
+            above,
+            prepared,
+        })
     }
 
     // The load that is read.
-    fn load(&self) -> Load<'a, B>
+    fn load(&self) -> Load<'_, B>
         ensures { load_of result ≡ lent_load self.now }
     {
         Load::new(
@@ -39,6 +46,7 @@ impl<'a, B: Bound> Demand<'a, B> {
             self.above.frame(),
             self.row.work,
             self.above.rows(),
+            &self.prepared,
         )
     }
 
@@ -82,6 +90,6 @@ impl<'a, B: Bound> Demand<'a, B> {
     pub fn finding(&self) -> Finding
         ensures { tells result ≡ load_finding (lent_load self.now) (lent_window self.now) }
     {
-        self.load().search(self.row.window())
+        self.load().finding(self.row.window())
     }
 }

@@ -1,7 +1,9 @@
 // A question about a row below a table, as its demand is lent.
 ghost use Rattle.std.specs.Prelude.{◌≤◌, length};
 ghost use Rattle.findings.specs.Asking.{most_above};
+ghost use Rattle.findings.specs.Prepared.{Prepares};
 
+use crate::preparing::Prepared;
 use bounds::Bound;
 use rows::{Row, Table};
 
@@ -12,5 +14,7 @@ pub struct Demand<'a, B: Bound> {
     pub(crate) bound: &'a B,
     pub(crate) row: &'a Row,
     pub(crate) above: &'a Table,
+    pub(crate) prepared: Prepared,
     pub(crate) ghost few: { length above.now.rows ≤ most_above },
+    pub(crate) ghost kept: { Prepares (B.meaning bound.now) above.now.frame.ticks above.now.rows prepared },
 }

@@ -9,10 +9,12 @@ ghost use Rattle.rows.specs.Found.{tells};
 ghost use Rattle.findings.specs.Tables.{findings_of, TableSays};
 
 use crate::loads::Load;
+use crate::preparing::Prepared;
 use bounds::Bound;
 use rows::{Fault, Finding, Frame, Refusal, Row, Table};
 
-// Puts the findings of the rows from a place on into the list, each at its row's place.
+// Puts the findings of the rows from a place on into the list, each at its row's place. Each row is
+// searched from where the row above was served, plus its own work.
 fn fill<B: Bound>(bound: &B, frame: &Frame, rows: &[Row], from: usize, list: &mut [Finding])
     requires countable { CanBeCounted most_rows frame.now.ticks rows.now }
     requires room { length rows.now ≤ length list.old }
@@ -21,9 +23,17 @@ fn fill<B: Bound>(bound: &B, frame: &Frame, rows: &[Row], from: usize, list: &mu
         (drop from (findings_of (B.meaning bound.now) frame.now rows.now)) }
     ensures stay { StaysOutside from (length rows.now) list.old list.new }
 {
+    let mut prepared = Prepared::of(bound, frame, &rows[..from.min(rows.len())]);
+    let mut late = 0;
     for i in from..rows.len() {
         let row = &rows[i];
-        list[i] = Load::new(bound, frame, row.work, &rows[0..i]).search(row.window());
+        let last = row.window();
+        {
+            let load = Load::new(bound, frame, row.work, &rows[0..i], &prepared);
+            late = load.reach((late + row.work).min(last + 1), last);
+            list[i] = load.search(late, last);
+        }
+        prepared.add(bound, frame, rows, i);
     }
 }
 

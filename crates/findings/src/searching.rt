@@ -1,11 +1,12 @@
 // The search for the first rest: one text for every bound.
-ghost use Rattle.std.specs.Prelude.{IsTrue, ◌≡◌, ◌<◌, ◌≤◌};
+ghost use Rattle.std.specs.Prelude.{IsTrue, ◌≡◌, ◌+◌, ◌<◌, ◌≤◌};
 ghost use Rattle.rows.specs.Times.{horizon};
 ghost use Rattle.findings.specs.Demand.{is_rest};
 ghost use Rattle.rows.specs.Found.{tells};
 ghost use Rattle.findings.specs.Findings.{first_rest, load_finding, Says};
 ghost use Rattle.bounds.specs.Instants.{IsFirst, OnceThenOn};
 ghost use Rattle.findings.specs.Loads.{load_of};
+ghost use Rattle.findings.specs.Served.{NoneServed};
 
 use crate::loads::Load;
 use bounds::Bound;
@@ -34,16 +35,18 @@ impl<'a, B: Bound> Load<'a, B> {
         some
     }
 
-    // The first rest of a row with this load that may rest up to `last`. Where what is sure to be
-    // demanded is served, and yet no rest, the next test point tells whether one lies up to it.
-    fn first_rest(&self, last: u32) -> Option<u32>
-        requires busy { 1 ≤ self.now.own }
+    // The first rest of a row with this load that may rest up to `last`, where no instant before `from`
+    // serves its exact demand. Where that is served, and yet the row does not rest, the next test point
+    // tells whether it does up to there.
+    fn first_rest(&self, from: u32, last: u32) -> Option<u32>
+        requires some { 1 ≤ from }
+        requires within { from ≤ last + 1 }
         requires near { last ≤ horizon }
+        requires none { NoneServed (load_of self.now) 0 from }
         ensures { result ≡ first_rest (load_of self.now) last }
     {
-        let mut late = 0;
-        while late < last {
-            let at = self.skip(late, last)?;
+        let mut at = from;
+        while at <= last {
             if self.is_rest(at) {
                 return Some(at);
             }
@@ -54,20 +57,24 @@ impl<'a, B: Bound> Load<'a, B> {
             if self.is_rest(point) {
                 return Some(self.bisect(at, point));
             }
-            late = point;
+            at = self.skip(point + 1, last);
         }
         None
     }
 
-    // The finding about a row with this load that may rest up to `last`.
-    pub(crate) fn search(&self, last: u32) -> Finding
+    // The finding about a row with this load that may rest up to `last`, where no instant before `from`
+    // serves its exact demand.
+    pub(crate) fn search(&self, from: u32, last: u32) -> Finding
         requires busy { 1 ≤ self.now.own }
         requires some { 1 ≤ last }
         requires near { last ≤ horizon }
+        requires late { 1 ≤ from }
+        requires within { from ≤ last + 1 }
+        requires none { NoneServed (load_of self.now) 0 from }
         ensures answered { tells result ≡ load_finding (load_of self.now) last }
         ensures says { Says (load_of self.now) last (tells result) }
     {
-        match self.first_rest(last) {
+        match self.first_rest(from, last) {
             Some(rest) => Finding {
                 verdict: Verdict::Meets(rest),
                 points: self.points(rest),
@@ -77,5 +84,16 @@ impl<'a, B: Bound> Load<'a, B> {
                 points: self.points(last),
             },
         }
+    }
+
+    // The finding about a row with this load that may rest up to `last`.
+    pub(crate) fn finding(&self, last: u32) -> Finding
+        requires busy { 1 ≤ self.now.own }
+        requires room { self.now.own ≤ last }
+        requires near { last ≤ horizon }
+        ensures answered { tells result ≡ load_finding (load_of self.now) last }
+        ensures says { Says (load_of self.now) last (tells result) }
+    {
+        self.search(self.reach(self.own, last), last)
     }
 }

@@ -1,50 +1,84 @@
-// Instants that are passed over: what is sure to be demanded from an instant on is not served before
-// there is time for it.
-ghost use Rattle.std.specs.Prelude.{◌≤◌};
+// Instants that are passed over: no bound demands less than the exact steps, which never fall, so
+// none rests before there is time for them.
+ghost use Rattle.std.specs.Prelude.{◌+◌, ◌≤◌};
 ghost use Rattle.rows.specs.Times.{horizon};
-ghost use Rattle.findings.specs.Floors.{IsUnder, GoesOn};
 ghost use Rattle.findings.specs.Loads.{load_of};
+ghost use Rattle.findings.specs.Served.{NoneServed};
 
+use crate::lines::SHORT;
 use crate::loads::Load;
 use bounds::Bound;
 
-// After so many leaps without a rest the next test point is asked, which may be farther than they.
-const LEAPS: u32 = 32;
+// After so many leaps the next test point is asked, which may be farther than they.
+const LEAPS: u32 = 16;
+
+// Below so few rows a few leaps more take less time than the division for the line.
+const FEW: usize = 8;
 
 impl<'a, B: Bound> Load<'a, B> {
-    // What is sure to be demanded from the instant on, in parts: the own work and the floors of the
-    // rows above.
-    fn floor(&self, at: u32) -> u64
-        requires { at ≤ horizon }
-        ensures { IsUnder (load_of self.now) at result }
+    // Where the line below the exact steps is served first, if that is later than `from`; past `last`
+    // where it is not up to there.
+    fn begin(&self, from: u32, last: u32) -> u32
+        requires busy { 1 ≤ self.now.own }
+        requires some { 1 ≤ from }
+        requires within { from ≤ last + 1 }
+        requires near { last ≤ horizon }
+        requires none { NoneServed (load_of self.now) 0 from }
+        ensures some { 1 ≤ result }
+        ensures within { result ≤ last + 1 }
+        ensures none { NoneServed (load_of self.now) 0 result }
     {
-        let mut floor = u64::from(self.frame) * u64::from(self.own);
-        for i in 0..self.above.len() {
-            floor += self.bound.floor(self.frame, &self.above[i], at);
+        if last <= SHORT && self.above.len() <= FEW {
+            return from;
         }
-        floor
+        let frame = u64::from(self.frame);
+        let line = self.prepared.line;
+        if line.slope >= frame {
+            return last + 1;
+        }
+        let free = frame - line.slope;
+        let parts = frame * u64::from(self.own) + line.height;
+        if parts > free * u64::from(last) {
+            return last + 1;
+        }
+        from.max(parts.div_ceil(free) as u32)
     }
 
-    // Where to go on after an instant, up to `last`: where what is sure to be demanded is served, or
-    // where so many leaps have come.
-    pub(crate) fn skip(&self, after: u32, last: u32) -> Option<u32>
-        requires { last ≤ horizon }
-        ensures { GoesOn (load_of self.now) after last result }
+    // The first instant from one on that serves its exact demand, or the one past `last`, or where so
+    // many leaps have come.
+    pub(crate) fn skip(&self, from: u32, last: u32) -> u32
+        requires within { from ≤ last + 1 }
+        requires near { last ≤ horizon }
+        ensures later { from ≤ result }
+        ensures within { result ≤ last + 1 }
+        ensures none { NoneServed (load_of self.now) from result }
     {
-        let frame = u64::from(self.frame);
-        let last = u64::from(last);
-        let mut at = u64::from(after) + 1;
+        let mut at = from;
         for _ in 0..LEAPS {
             if at > last {
-                return None;
+                return at;
             }
-            let floor = self.floor(at as u32);
-            let served = frame * at;
-            if floor <= served {
-                return Some(at as u32);
+            let demand = self.exact(at);
+            if demand <= at {
+                return at;
             }
-            at += (floor - served).div_ceil(frame);
+            at = demand.min(last + 1);
         }
-        if at > last { None } else { Some(at as u32) }
+        at
+    }
+
+    // Where the search begins: no instant before that serves its exact demand, nor did any before
+    // `from`.
+    pub(crate) fn reach(&self, from: u32, last: u32) -> u32
+        requires busy { 1 ≤ self.now.own }
+        requires some { 1 ≤ from }
+        requires within { from ≤ last + 1 }
+        requires near { last ≤ horizon }
+        requires none { NoneServed (load_of self.now) 0 from }
+        ensures some { 1 ≤ result }
+        ensures within { result ≤ last + 1 }
+        ensures none { NoneServed (load_of self.now) 0 result }
+    {
+        self.skip(self.begin(from, last), last)
     }
 }

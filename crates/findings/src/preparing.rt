@@ -1,0 +1,48 @@
+// What is kept of the rows above while a table is counted: made once for each row, and lent to the
+// search of every row below it.
+ghost use Rattle.std.specs.Prelude.{ℕ, ◌+◌, ◌<◌, [], length, take};
+ghost use Rattle.rows.specs.Times.{most_rows};
+ghost use Rattle.bounds.specs.Meaning.{Meaning};
+ghost use Rattle.findings.specs.Countable.{CanBeCounted};
+ghost use Rattle.findings.specs.Prepared.{Prepares};
+
+use crate::lines::Line;
+use bounds::Bound;
+use rows::{Frame, Row};
+
+// A line below the steps of the rows.
+#[derive(Drop)]
+pub(crate) struct Prepared {
+    pub(crate) line: Line,
+}
+
+impl Prepared {
+    // What is kept of no row.
+    fn new() -> Prepared
+        ensures { (m : Meaning) (h : ℕ) → Prepares m h [] result }
+    {
+        Prepared { line: Line::new() }
+    }
+
+    // Keeps the row at a place too, where the rows before it are kept.
+    pub(crate) fn add<B: Bound>(&mut self, bound: &B, frame: &Frame, rows: &[Row], place: usize)
+        requires countable { CanBeCounted most_rows frame.now.ticks rows.now }
+        requires there { place < length rows.now }
+        requires kept { Prepares (B.meaning bound.now) frame.now.ticks (take place rows.now) self.old }
+        ensures { Prepares (B.meaning bound.now) frame.now.ticks (take (place + 1) rows.now) self.new }
+    {
+        self.line = self.line.with_row(frame.ticks(), &rows[place]);
+    }
+
+    // What is kept of rows.
+    pub(crate) fn of<B: Bound>(bound: &B, frame: &Frame, rows: &[Row]) -> Prepared
+        requires { CanBeCounted most_rows frame.now.ticks rows.now }
+        ensures { Prepares (B.meaning bound.now) frame.now.ticks rows.now result }
+    {
+        let mut prepared = Prepared::new();
+        for place in 0..rows.len() {
+            prepared.add(bound, frame, rows, place);
+        }
+        prepared
+    }
+}
