@@ -170,6 +170,45 @@ module _ (l : Load) (last : ℕ) (laws : Laws l.bound) (stands : StandOn l.frame
       let walked : Walked l last n = record { within = omega arith; none = no_rest none n (omega arith) } in
       (pass l last laws stands near n q walked next late).none i (omega (arith, next.after))
 
+  -- before the first rest the walk has come to no rest
+  to_first : (t : ℕ) → IsFirst (is_rest l) 0 last t → Walked l last (t - 1)
+  to_first t first = record {
+    within = omega (arith, first.within);
+    none = λ i low.
+        ⊎_elim (λ (some : 0 < i). first.none i some (omega (arith, first.after)))
+        (λ none. (start l last laws stands busy).none i none) (cases_lt 0 i);
+  }
+
+  -- the first test point from the first rest on is a rest
+  on_point : (t : ℕ) → IsFirst (is_rest l) 0 last t
+      → (q : ℕ) × IsFirst (is_tested l last) (t - 1) last q × (is_rest l q ≡ true)
+  on_point t first =
+      let (q, next) = next_test (t - 1) (omega (arith, first.after, first.within)) in
+      let once = turns_once l last laws stands near (t - 1) q (to_first t first) next in
+      let on = once t q (omega (arith, first.after)) (omega (arith, first.after, next.after))
+      (omega arith) first.holds in
+      (q, next, on)
+
+  -- the first rest lies between two points: no later than where testing stops, and after every test point before that
+  lies_between : (s t : ℕ) → IsFirst (is_resting_point l last) 0 last s → IsFirst (is_rest l) 0 last t
+      → (t ≤ s) × ((p : ℕ) → p < s → is_tested l last p ≡ true → p < t)
+  lies_between s t stops first =
+      let rests = (and_parts (is_tested l last s) (is_rest l s) stops.holds).1 in
+      let (q, next, on) = on_point t first in
+      let none : q < s → ⊥ = λ early.
+      both_ways (is_resting_point l last q) (stops.none q (omega (arith, next.after)) early)
+      (and_from (is_tested l last q) (is_rest l q) next.holds on) in (
+        ⊎_elim (λ (early : s < t). absurd (both_ways (is_rest l s) (first.none s stops.after early) rests)) (λ e. e)
+            (cases_lt s t),
+        λ p early tested.
+            ⊎_elim (λ e. e)
+            (λ (late : t ≤ p).
+            ⊎_elim (λ (before : p < q).
+            absurd (both_ways (is_tested l last p) (next.none p (omega (arith, first.after)) before) tested))
+            (λ (past : q ≤ p). absurd (none (omega arith))) (cases_lt p q))
+            (cases_lt p t),
+      )
+
   pub finding_says : Says l last (load_finding l last)
   unfolding first_rest stop points
   finding_says =
@@ -181,13 +220,17 @@ module _ (l : Load) (last : ℕ) (laws : Laws l.bound) (stands : StandOn l.frame
           (IsFirst (is_resting_point l last) 0 last)
           → MatchOption t ((i : ℕ) → 1 ≤ i → i ≤ last → is_rest l i ≡ false) (IsFirst (is_rest l) 0 last)
           → Says l last (record { rest = t; points = count (is_tested l last) (unwrap_or s last) })
-      at None None _ none = record { rest = none; points = refl }
+      at None None _ none = record { rest = none; points = refl; between = tt }
       at None (Some t) none first =
           absurd (both_ways (is_rest l t) (no_rest none last (omega arith) t first.within) first.holds)
       at (Some s) None first none =
           absurd (both_ways (is_rest l s) (none s first.after first.within)
           (and_parts (is_tested l last s) (is_rest l s) first.holds).1)
-      at (Some s) (Some t) stops first = record { rest = first; points = (s, stops, refl) }
+      at (Some s) (Some t) stops first = record {
+        rest = first;
+        points = (s, stops, refl);
+        between = let (within, after) = lies_between s t stops first in (s, stops, within, after);
+      }
 
   -- every finding that is the defined one says what that says
   pub found_says : (f : Found) → f ≡ load_finding l last → Says l last f
@@ -197,19 +240,12 @@ module _ (l : Load) (last : ℕ) (laws : Laws l.bound) (stands : StandOn l.frame
   pub stops_after : (t : ℕ) → first_rest l last ≡ Some t → IsFirst (is_tested l last) (t - 1) last (stop l last)
   stops_after t e =
       let first = first_is l last t e in
-      let (q, next) = next_test (t - 1) (omega (arith, first.after, first.within)) in
-      let walked : Walked l last (t - 1) = record {
-        within = omega (arith, first.within);
-        none = λ i low.
-            ⊎_elim (λ (some : 0 < i). first.none i some (omega (arith, first.after)))
-            (λ none. (start l last laws stands busy).none i none) (cases_lt 0 i);
-      } in
-      let on = turns_once l last laws stands near (t - 1) q walked next t q (omega (arith, first.after))
-      (omega (arith, first.after, next.after)) (omega arith) first.holds in
+      let (q, next, on) = on_point t first in
       let here : IsFirst (is_rest l) (t - 1) q t = record {
         after = omega (arith, first.after);
         within = omega (arith, first.after, next.after);
         holds = first.holds;
         none = λ i low early. absurd (omega (arith, first.after));
       } in
-      subst (IsFirst (is_tested l last) (t - 1) last) (sym (stops l last (t - 1) q t walked next on here)) next
+      subst (IsFirst (is_tested l last) (t - 1) last) (sym (stops l last (t - 1) q t (to_first t first) next on here))
+      next
