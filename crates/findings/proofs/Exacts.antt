@@ -18,8 +18,8 @@ use Rattle.bounds.specs.Meaning.{Meaning}
 use Rattle.findings.specs.Demand.{Load, load, demand, is_rest}
 use Rattle.findings.specs.Served.{exact_of, NoneServed}
 use Rattle.findings.specs.Lines.{LiesUnder, share_of}
-use Rattle.findings.specs.Countable.{StandOn}
-use Rattle.findings.proofs.Amounts.{asked_on_frame, frame_low}
+use Rattle.findings.specs.Countable.{StandOn, CanBeCounted}
+use Rattle.findings.proofs.Amounts.{asked_on_frame, demand_fits, frame_low}
 
 -- a sum over the first rows, and over one more
 pub sum_more : (f : Row → ℕ) (rows : List Row) (i : ℕ) (d : Row) → i < length rows
@@ -39,6 +39,10 @@ sum_with f (r ∷ rows) i x small is = sum_more f (r ∷ rows) i r small
 abbrev pub part_exact : Load → ℕ → ℕ → ℕ
 part_exact l i t = l.own + sum_by (λ r. steps r t) (take i l.above)
 
+-- the own work and the amounts of the first i rows above, in parts
+abbrev pub part_demand : Load → ℕ → ℕ → ℕ
+part_demand l i t = l.frame * l.own + sum_by (λ r. l.bound.amount l.frame r t) (take i l.above)
+
 -- no steps up to the horizon pass this
 pub steps_small : (r : Row) (t : ℕ) → t ≤ horizon → steps r t ≤ 3 * horizon
 steps_small r t near =
@@ -55,6 +59,13 @@ part_small l i t small few near =
     let all = sum_by-le f (3 * horizon) l.above (λ k d place. steps_small (get_or l.above k d) t near) in
     let rows = mul-le (length l.above) (3 * horizon) most_above (3 * horizon) few (omega arith) in
     omega (arith, sum_by-take-le f l.above i, all, rows)
+
+-- the demand of some rows by a bound fits 64 bits
+pub part_fits : (l : Load) (i t : ℕ) → Laws l.bound → CanBeCounted most_above l.frame l.above → l.own < 2 ^ 32
+    → t ≤ horizon → part_demand l i t < 2 ^ 64
+part_fits l i t laws countable small near =
+    let f : Row → ℕ = λ r. l.bound.amount l.frame r t in
+    omega (arith, sum_by-take-le f l.above i, demand_fits l laws countable t near small)
 
 -- the exact demand never falls
 pub exact_grows : (l : Load) (s t : ℕ) → s ≤ t → exact_of l s ≤ exact_of l t

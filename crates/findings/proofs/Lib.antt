@@ -1,6 +1,7 @@
 pub mod Turning
 pub mod Amounts
 pub mod Exacts
+pub mod Kept
 pub mod Nearest
 pub mod Points
 pub mod SetFlags

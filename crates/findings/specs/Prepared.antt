@@ -1,10 +1,20 @@
 -- What is kept of the rows above while a table is counted.
-use Rattle.std.specs.Prelude.{ℕ, List}
+use Rattle.std.specs.Prelude.{◌≡◌, ℕ, ◌<◌, List, get_or, length}
 use Rattle.rows.specs.declared.tasks.Row.{Row}
+use Rattle.rows.specs.Times.{most_rows}
+use Rattle.bounds.specs.declared.questions.OnFrame.{OnFrame}
 use Rattle.bounds.specs.Meaning.{Meaning}
+use Rattle.bounds.specs.Questions.{frame_under, row_on}
 use Rattle.findings.specs.declared.preparing.Prepared.{Prepared}
 use Rattle.findings.specs.Lines.{LiesUnder}
 
--- it is kept of these rows: its line lies below their steps
+-- the list has the rows on the frame, each at its place
+abbrev pub StandInTurn : ℕ → List Row → List OnFrame → Type 0
+StandInTurn h rows xs = (k : ℕ) (s : OnFrame) (r : Row) → k < length rows
+    → (frame_under (get_or xs k s) ≡ h) × (row_on (get_or xs k s) ≡ get_or rows k r)
+
+-- it is kept of these rows: they stand in turn on their frame, and a line lies below their steps
 pub record Prepares (m : Meaning) (h : ℕ) (rows : List Row) (p : Prepared) : Type 0 where
+  pub size : length p.rows ≡ most_rows
+  pub stand : StandInTurn h rows p.rows
   pub lies : LiesUnder h rows p.line.slope p.line.height

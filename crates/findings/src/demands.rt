@@ -2,12 +2,12 @@
 ghost use Rattle.std.specs.Prelude.{◌≡◌, ◌<◌, ◌≤◌, fold, get_or, length, min};
 ghost use Rattle.std.specs.List.{filter_map};
 ghost use Rattle.rows.specs.declared.tasks.Row.{Row as TheRow};
-ghost use Rattle.rows.specs.Counting.{steps};
 ghost use Rattle.rows.specs.Times.{horizon};
 ghost use Rattle.bounds.specs.Answering.{corner_after};
 ghost use Rattle.bounds.specs.Instants.{IsFirst};
+ghost use Rattle.bounds.specs.Questions.{asked_at, asked_frame, asked_row};
 ghost use Rattle.findings.specs.Asking.{most_above};
-ghost use Rattle.findings.specs.Demand.{load, above_demand, demand, is_rest};
+ghost use Rattle.findings.specs.Demand.{load, demand, is_rest};
 ghost use Rattle.findings.specs.Findings.{is_tested};
 ghost use Rattle.findings.specs.Countable.{CanBeCounted};
 ghost use Rattle.findings.specs.Loads.{load_of};
@@ -16,7 +16,7 @@ ghost use Rattle.findings.specs.Served.{exact_of};
 
 use crate::loads::Load;
 use crate::preparing::Prepared;
-use bounds::Bound;
+use bounds::{Asked, Bound};
 use rows::{Frame, Row};
 
 impl<'a, B: Bound> Load<'a, B> {
@@ -42,13 +42,15 @@ impl<'a, B: Bound> Load<'a, B> {
         }
     }
 
-    // The exact steps of the row at a place above.
-    fn steps_of(&self, place: usize, at: u32) -> u32
+    // The question how much the row at a place above can demand up to an instant.
+    fn asked(&self, place: usize, at: u32) -> Asked<'_>
         requires there { place < length self.now.above.now }
         requires near { at ≤ horizon }
-        ensures { (d : TheRow) → result ≡ steps (get_or self.now.above.now place d) at }
+        ensures frame { asked_frame result ≡ self.now.frame }
+        ensures row { (d : TheRow) → asked_row result ≡ get_or self.now.above.now place d }
+        ensures at { asked_at result ≡ at }
     {
-        self.above[place].steps(at) as u32
+        self.prepared.rows[place].at(at).unwrap()
     }
 
     // The exact demand up to the instant, in units of work.
@@ -58,30 +60,19 @@ impl<'a, B: Bound> Load<'a, B> {
     {
         let mut demand = self.own;
         for i in 0..self.above.len() {
-            demand += self.steps_of(i, at);
+            demand += self.asked(i, at).steps();
         }
         demand
     }
 
-    // What the rows above can demand up to the instant, in parts.
-    fn amounts(&self, at: u32) -> u64
-        requires { at ≤ horizon }
-        ensures { result ≡ above_demand (load_of self.now) at }
-    {
-        self.above
-            .iter()
-            .map(|row| self.bound.amount(self.frame, row, at))
-            .sum()
-    }
-
-    // The least of an instant and the next corners of the rows above: no flags are set.
+    // The least of an instant and the next corners of the rows above.
     fn nearest_corner(&self, after: u32, last: u32) -> u32
         ensures { result ≡ fold min last (filter_map
             (λ r. corner_after (B.meaning self.now.bound.now) r after) self.now.above.now) }
     {
         self.above
             .iter()
-            .filter_map(|row| self.bound.mark(row, after, &mut []))
+            .filter_map(|row| self.bound.corner_after(row, after))
             .fold(last, |next, corner| next.min(corner))
     }
 
@@ -90,7 +81,11 @@ impl<'a, B: Bound> Load<'a, B> {
         requires { at ≤ horizon }
         ensures { result ≡ demand (load_of self.now) at }
     {
-        u64::from(self.frame) * u64::from(self.own) + self.amounts(at)
+        let mut demand = u64::from(self.frame) * u64::from(self.own);
+        for i in 0..self.above.len() {
+            demand += self.bound.amount_asked(&self.asked(i, at));
+        }
+        demand
     }
 
     // Whether all that is demanded up to the instant is served by it.

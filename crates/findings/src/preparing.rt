@@ -7,12 +7,13 @@ ghost use Rattle.findings.specs.Countable.{CanBeCounted};
 ghost use Rattle.findings.specs.Prepared.{Prepares};
 
 use crate::lines::Line;
-use bounds::Bound;
-use rows::{Frame, Row};
+use bounds::{Bound, OnFrame};
+use rows::{Frame, MOST_ROWS, Row};
 
-// A line below the steps of the rows.
+// The rows on their frame, in rank order, and a line below their steps.
 #[derive(Drop)]
 pub(crate) struct Prepared {
+    pub(crate) rows: [OnFrame; MOST_ROWS],
     pub(crate) line: Line,
 }
 
@@ -21,7 +22,10 @@ impl Prepared {
     fn new() -> Prepared
         ensures { (m : Meaning) (h : ℕ) → Prepares m h [] result }
     {
-        Prepared { line: Line::new() }
+        Prepared {
+            rows: [OnFrame::default(); MOST_ROWS],
+            line: Line::new(),
+        }
     }
 
     // Keeps the row at a place too, where the rows before it are kept.
@@ -31,7 +35,10 @@ impl Prepared {
         requires kept { Prepares (B.meaning bound.now) frame.now.ticks (take place rows.now) self.old }
         ensures { Prepares (B.meaning bound.now) frame.now.ticks (take (place + 1) rows.now) self.new }
     {
-        self.line = self.line.with_row(frame.ticks(), &rows[place]);
+        let ticks = frame.ticks();
+        let row = &rows[place];
+        self.rows[place] = OnFrame::new(ticks, row).unwrap();
+        self.line = self.line.with_row(ticks, row);
     }
 
     // What is kept of rows.

@@ -1,4 +1,4 @@
-use Rattle.std.proofs.Common.{◌+◌, arith}
+use Rattle.std.proofs.Common.{◌+◌, ap₂, ◌∙◌, arith}
 use Rattle.rows.specs.Counting.{steps}
 use Rattle.findings.specs.Loads.{load_of}
 use Rattle.findings.proofs.Exacts.{part_small, sum_with}
@@ -7,8 +7,8 @@ use Rattle.findings.proofs.loads.Load.exact.Goals as goal
 pub overflow_add-demand : goal.overflow_add-demand
 overflow_add-demand g c =
     let l = load_of c.args.self.now in
-    let more = sum_with (λ r. steps r c.args.at) l.above c.loop-i.i c.steps_of-demand.result c.loop-i-test.true
-    c.steps_of-demand.ensures in
+    let more = sum_with (λ r. steps r c.args.at) l.above c.loop-i.i c.steps-demand.result c.loop-i-test.true
+    (λ d. c.steps-demand.ensures.answered ∙ ap₂ steps (c.asked.ensures.row d) c.asked.ensures.at) in
     record {
       fits = omega (
         arith,
@@ -22,6 +22,6 @@ overflow_add-demand g c =
 pub loop-i-preserved : goal.loop-i-preserved
 loop-i-preserved g c =
     let l = load_of c.args.self.now in
-    let more = sum_with (λ r. steps r c.args.at) l.above c.loop-i.i c.steps_of-demand.result c.loop-i-test.true
-    c.steps_of-demand.ensures in
+    let more = sum_with (λ r. steps r c.args.at) l.above c.loop-i.i c.steps-demand.result c.loop-i-test.true
+    (λ d. c.steps-demand.ensures.answered ∙ ap₂ steps (c.asked.ensures.row d) c.asked.ensures.at) in
     omega (arith, c.loop-i.invariant, more)
