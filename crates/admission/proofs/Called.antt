@@ -1,21 +1,23 @@
 -- What a call of the code does, by what it found on its way.
 use Rattle.std.proofs.Common.{◌≡◌, ◌≢◌, ℕ, zero, suc, ◌+◌, ◌-◌, ◌<◌, ◌≤◌, Bool, true, false, not, leb, List, [], ◌∷◌}
-use Rattle.std.proofs.Common.{◌++◌, length, get_or, take, drop, Some, None, refl, sym, ap, ◌∙◌, subst, arith, position}
+use Rattle.std.specs.Prelude.{nat_lt}
+use Rattle.std.proofs.Common.{ap₂, ◌++◌, length, get_or, take, drop, Some, None, refl, sym, ap, ◌∙◌, subst, arith, position}
 use Rattle.std.specs.List.{All, AllPass, insert, remove}
 use Rattle.std.specs.Option.{option_map, unwrap_or}
 use Rattle.std.proofs.lemmas.Bool.{and_from, le-leb, lt-leb, not-false}
-use Rattle.std.proofs.lemmas.List.{get_or-map, length-map}
+use Rattle.std.proofs.lemmas.List.{get_or-map, length-map, nil_from_length}
 use Rattle.std.proofs.lemmas.List.Elements.{All-weaker}
 use Rattle.rows.specs.declared.frames.FrameNumbers.{FrameNumbers}
 use Rattle.rows.specs.declared.refusals.Fault.{Fault}
-use Rattle.rows.specs.declared.refusals.Refusal.TheVariants.{Overload, FullTable, NoRank}
+use Rattle.rows.specs.declared.refusals.Refusal.TheVariants.{StandingRows, Overload, FullTable, NoRank}
 use Rattle.rows.specs.declared.tasks.Numbers.{Numbers}
 use Rattle.rows.specs.declared.tasks.Row.{Row}
 use Rattle.rows.specs.Answers.{check, check_each, checked, gives, refuses, refuses_at, Passes}
+use Rattle.rows.specs.Frames.{frame_checks}
 use Rattle.rows.specs.Judging.{plain, rows_of, frame_flaws, flaw_checks}
 use Rattle.rows.specs.Lists.{at_rank, first_of}
 use Rattle.rows.specs.Times.{most_rows}
-use Rattle.rows.proofs.Checks.{given_is, passed_first, passes_on, places_pass}
+use Rattle.rows.proofs.Checks.{given_is, gives_any, passed_first, passes_on, places_pass}
 use Rattle.rows.proofs.SameRow.{rows_of_plain}
 use Rattle.bounds.specs.Meaning.{Meaning}
 use Rattle.rows.specs.declared.verdicts.Finding.{Finding}
@@ -24,7 +26,7 @@ use Rattle.findings.specs.Findings.{row_finding}
 use Rattle.findings.proofs.Tables.{finding_below_at, length_findings_below}
 use Rattle.findings.specs.Tables.{findings_of}
 use Rattle.admission.specs.declared.calls.Call.{Call}
-use Rattle.admission.specs.declared.calls.Call.TheVariants.{Admit, Inquire}
+use Rattle.admission.specs.declared.calls.Call.TheVariants.{Frame, Admit, Dismiss, Inquire}
 use Rattle.admission.specs.declared.calls.Reply.{Reply}
 use Rattle.admission.specs.declared.calls.Reply.TheVariants.{Done, Refused}
 use Rattle.rows.specs.Books.{Book, IsJudged, book}
@@ -52,6 +54,12 @@ kept_sound m k judged keeps = record {
   few = judged.few;
   meet = subst (AllPass is_met) keeps.counted keeps.meet;
 }
+
+-- so is the book that is seen of a bench, by a bound of any meaning
+pub seen_sound : {B : Type 0} (meaning : B → Meaning) (bound : B) (k : Kept) (now : Held B) → seen bound k ≡ now
+    → IsJudged k.table → Keeps (meaning bound) k → Sound (meaning now.bound) now.book
+seen_sound meaning bound k now is judged keeps =
+    subst (λ b. Sound (meaning b.bound) b.book) is (kept_sound (meaning bound) k judged keeps)
 
 -- a call that refuses as its checks do leaves the bench, and does what the book says
 pub refuses_so : {B : Type 0} (m : Meaning) (c : Call) (now : Held B) (x : Fault) → now ≡ bench m now.bound now.book
@@ -129,6 +137,34 @@ module _ (m : Meaning) (b : Book) (rank : ℕ) (n : Numbers) (r : Row)
 pub without_is : (rank : ℕ) (rows : List Row) → 1 ≤ rank → remove rows (rank - 1) ≡ without rank rows
 without_is rank rows low = let up : suc (rank - 1) ≡ rank = omega arith in
     ap (λ k. take (rank - 1) rows ++ drop k rows) up
+
+-- what the code has found where it sets the frame and where it dismisses a row
+module _ {B : Type 0} (m : Meaning) (bound : B) (k new : Kept) where
+  -- where a frame is judged and no row stands, an empty bench with it is what setting it comes to
+  pub sets_frame : (h frame : FrameNumbers) → gives frame ≡ checked (frame_checks h) h → length k.table.rows ≡ 0
+      → new.table ≡ book frame [] → kept_findings new ≡ []
+      → Does m (Frame h) (seen bound k) (seen bound new) Done
+  sets_frame h frame judged none table findings =
+      let standing = check (nat_lt 0 (length k.table.rows)) StandingRows 0 in
+      let empty : k.table.rows ≡ [] = nil_from_length k.table.rows none in
+      let given : gives done ≡ checked (checks_of m k.table (Frame h)) done =
+      sym (passes_on (nat_lt 0 (length k.table.rows)) StandingRows 0 (gives done) (ap (λ n. nat_lt 0 n) none))
+      ∙ passed_first (frame_checks h) (standing ∷ []) frame h judged done in
+      let becomes : seen bound new ≡ bench m bound (book h k.table.rows) =
+      ap₂ (λ b fs. record { bound = bound; book = b; findings = fs })
+      (table ∙ ap (λ f. book f []) (given_is (frame_checks h) frame h judged)) findings
+      ∙ ap (λ rows. bench m bound (book h rows)) (sym empty) in
+      does_so m (Frame h) (seen bound k) (seen bound new) Done done given refl becomes
+
+  -- where a row stands at a rank, a bench without it is what dismissing it comes to
+  pub dismisses : (rank : ℕ) → Passes (rank_checks (length k.table.rows) rank) → 1 ≤ rank → Keeps m new
+      → new.table ≡ book k.table.frame (remove k.table.rows (rank - 1))
+      → Does m (Dismiss rank) (seen bound k) (seen bound new) Done
+  dismisses rank passes low keeps table =
+      does_so m (Dismiss rank) (seen bound k) (seen bound new) Done done
+      (gives_any (rank_checks (length k.table.rows) rank) tt tt passes done) refl
+      (kept_is m bound new keeps
+      ∙ ap (bench m bound) (table ∙ ap (book k.table.frame) (without_is rank k.table.rows low)))
 
 -- the element at a rank is that at the place before it
 at_place : {X : Type 0} (xs : List X) (i : ℕ) (d : X) → i < length xs → first_of (drop i xs) ≡ Some (get_or xs i d)

@@ -1,15 +1,14 @@
 -- What has passed where an admit is answered, or refused for overload.
-use Rattle.std.proofs.Common.{◌≡◌, ◌≢◌, ℕ, ◌+◌, ◌<◌, ◌≤◌, Bool, true, false, not, eqb, leb, List, [], ◌∷◌, ◌++◌, length}
+use Rattle.std.proofs.Common.{◌≡◌, ◌≢◌, ℕ, ◌+◌, ◌<◌, ◌≤◌, Bool, true, not, eqb, leb, List, [], ◌∷◌, ◌++◌, length}
 use Rattle.std.proofs.Common.{Some, None, Option, refl, ap, arith}
 use Rattle.std.specs.List.{list_all, cons_option}
 use Rattle.std.proofs.lemmas.Bool.{and_parts, both_ways, not-false, not-true, eq-eqb, eqb-false, ltb-false, leb-false}
-use Rattle.std.proofs.lemmas.Bool.{leb-true}
 use Rattle.rows.specs.declared.judging.Flaw.TheVariants.{Idle, Cramped, Late, Long, Off}
 use Rattle.rows.specs.declared.refusals.Refusal.TheVariants.{IdleRow, NoWindow, LateDeadline, LongPeriod, OffFrame}
 use Rattle.rows.specs.declared.refusals.Refusal.TheVariants.{FullTable}
 use Rattle.rows.specs.declared.tasks.Numbers.{Numbers}
 use Rattle.rows.specs.declared.tasks.Row.{Row}
-use Rattle.rows.specs.Answers.{Answer, gives, refuses, refuses_at, Check, check, checked, Passes}
+use Rattle.rows.specs.Answers.{Answer, gives, refuses, refuses_at, Check, checked, Passes}
 use Rattle.rows.specs.Counting.{is_on_frame}
 use Rattle.rows.specs.Judging.{has_flaw, rows_of}
 use Rattle.rows.specs.Refusals.{number}

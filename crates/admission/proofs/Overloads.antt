@@ -1,16 +1,15 @@
 -- What a refusal for overload names.
-use Rattle.std.proofs.Common.{◌≡◌, ℕ, suc, ◌+◌, ◌-◌, ◌<◌, true, List, [], ◌∷◌, ◌++◌, length, take, drop, get_or, Some}
+use Rattle.std.proofs.Common.{◌≡◌, ◌≢◌, ℕ, suc, ◌+◌, ◌-◌, ◌<◌, true, List, [], ◌∷◌, ◌++◌, length, take, drop, get_or, Some}
 use Rattle.std.proofs.Common.{None, Option, sym, refl, ap, ◌∙◌, subst, arith, position}
 use Rattle.std.specs.Option.{option_map}
-use Rattle.std.specs.List.{AllPass}
+use Rattle.std.specs.List.{AllPass, list_all}
 use Rattle.std.proofs.lemmas.Bool.{not-false}
-use Rattle.std.proofs.lemmas.List.{drop_at, get_or_append_left, length-take-le}
+use Rattle.std.proofs.lemmas.List.{append-nil, drop_at, get_or_append_left, length-take-le}
 use Rattle.std.proofs.lemmas.List.Quantifiers.{position-Some}
 use Rattle.rows.specs.declared.refusals.Refusal.TheVariants.{Overload}
-use Rattle.rows.specs.declared.tasks.Numbers.{Numbers}
 use Rattle.rows.specs.declared.frames.FrameNumbers.{FrameNumbers}
 use Rattle.rows.specs.declared.tasks.Row.{Row}
-use Rattle.rows.specs.Answers.{gives, refuses, refuses_at, check_each, checked}
+use Rattle.rows.specs.Answers.{Answer, gives, refuses, refuses_at, check_each, checked}
 use Rattle.rows.specs.Lists.{first_of, at_rank}
 use Rattle.bounds.specs.Laws.{Laws}
 use Rattle.bounds.specs.Meaning.{Meaning}
@@ -23,14 +22,16 @@ use Rattle.admission.specs.declared.calls.Call.{Call}
 use Rattle.admission.specs.declared.calls.Call.TheVariants.{Frame, Admit, Dismiss, Inquire}
 use Rattle.rows.specs.Found.{is_met, is_miss}
 use Rattle.rows.specs.Books.{Book}
+use Rattle.admission.specs.declared.calls.Reply.{Reply}
+use Rattle.admission.specs.Benches.{Held, Does}
 use Rattle.admission.specs.Books.{checks_of, entry_checks, first_book, overload_check, step, told, with_newcomer}
-use Rattle.admission.specs.Promises.{NamesMiss, OverloadsMiss}
-use Rattle.admission.specs.Replies.{Told}
+use Rattle.admission.specs.Promises.{NamesMiss, OverloadMisses, OverloadsMiss}
+use Rattle.admission.specs.Replies.{Told, answer_of}
 use Rattle.admission.specs.Runs.{book_after, answers_to, answers_from}
-use Rattle.admission.proofs.Entry.{enters, left_to}
+use Rattle.admission.proofs.Entry.{enters, is_not_of, left_to}
 use Rattle.admission.proofs.Findings.{findings_append, finding_there}
 use Rattle.admission.proofs.Runs.{answers_from_append, length_answers_to}
-use Rattle.admission.proofs.Steps.{step_answers, stands_before, stands_with, runs_sound, parts_at}
+use Rattle.admission.proofs.Steps.{Sound, step_answers, stands_before, stands_with, runs_sound, parts_at}
 
 -- a miss has no first rest
 no_rest : (o : Option ℕ) (points : ℕ) → is_miss (record { rest = o; points = points }) ≡ true → o ≡ None
@@ -100,25 +101,32 @@ module _ (m : Meaning) (h : FrameNumbers) where
       by (Some i) first refused = let place : i + 1 ≡ at = cc in
           subst (NamesMiss m h rows) place (names_miss laws rows i stand first)
 
--- a call that is refused for overload is an admit, and the refusal names such a row
-overload_misses : (m : Meaning) → Laws m → (b : Book) → StandOn b.frame.ticks b.rows → (c : Call) (at : ℕ)
-    → refuses Overload at ≡ checked (checks_of m b c) (told m b c)
-    → (rank : ℕ) × (n : Numbers) × (c ≡ Admit rank n) × NamesMiss m b.frame (with_newcomer rank n b.rows) at
-overload_misses m laws b stand (Admit rank n) at refused =
+-- a call none of whose checks is for overload is not refused for it
+pub no_overload : (m : Meaning) (b : Book) (c : Call) (a : Answer Told)
+    → list_all (is_not_of {A = Told} (refuses Overload 0)) (checks_of m b c) ≡ true → a ≡ (step m b c).1
+    → (at : ℕ) → a ≢ refuses Overload at
+no_overload m b c a others answered = λ at is. let end =
+    (left_to (checks_of m b c) [] (refuses Overload at) (told m b c) others
+    (sym is ∙ answered ∙ step_answers m b c ∙ ap (λ cs. checked cs (told m b c)) (sym (append-nil (checks_of m b c))))).1
+    in cc
+
+-- where a book stands on its frame, an answer that refuses a call for overload is that to an admit, and names such a row
+pub overload_misses : (m : Meaning) → Laws m → (b : Book) → StandOn b.frame.ticks b.rows → (c : Call) (a : Answer Told)
+    → a ≡ (step m b c).1 → OverloadMisses m b c a
+overload_misses m laws b stand (Admit rank n) a answered = λ at is.
     let passed = left_to (entry_checks b rank n) (overload_check m b rank n ∷ []) (refuses Overload at)
-    (told m b (Admit rank n)) refl refused in
-    let stands = stands_with b rank n stand (enters b rank n passed.0) in (
-      rank,
-      n,
-      refl,
-      refusal_names m b.frame laws (with_newcomer rank n b.rows) at (told m b (Admit rank n)) stands passed.1,
-    )
-overload_misses m laws b stand (Frame h) at refused = let end =
-    (left_to (checks_of m b (Frame h)) [] (refuses Overload at) (told m b (Frame h)) refl refused).1 in cc
-overload_misses m laws b stand (Dismiss rank) at refused = let end =
-    (left_to (checks_of m b (Dismiss rank)) [] (refuses Overload at) (told m b (Dismiss rank)) refl refused).1 in cc
-overload_misses m laws b stand (Inquire rank) at refused = let end =
-    (left_to (checks_of m b (Inquire rank)) [] (refuses Overload at) (told m b (Inquire rank)) refl refused).1 in cc
+    (told m b (Admit rank n)) refl (sym is ∙ answered ∙ step_answers m b (Admit rank n)) in
+    let stands = stands_with b rank n stand (enters b rank n passed.0) in
+    refusal_names m b.frame laws (with_newcomer rank n b.rows) at (told m b (Admit rank n)) stands passed.1
+overload_misses m laws b stand (Frame h) a answered = no_overload m b (Frame h) a refl answered
+overload_misses m laws b stand (Dismiss rank) a answered = no_overload m b (Dismiss rank) a refl answered
+overload_misses m laws b stand (Inquire rank) a answered = no_overload m b (Inquire rank) a refl answered
+
+-- so does the reply of a call that does what the book says
+pub overload_named : {B : Type 0} {m : Meaning} {c : Call} {old new : Held B} {reply : Reply} → Laws m → Sound m old.book
+    → Does m c old new reply → OverloadMisses m old.book c (answer_of reply)
+overload_named {B} {m} {c} {old} {new} {reply} laws sound does =
+    overload_misses m laws old.book sound.stand c (answer_of reply) does.replies
 
 -- the answer to a call stands at its place among the answers
 pub answer_at : (m : Meaning) (before after : List Call) (c : Call)
@@ -130,10 +138,9 @@ answer_at m before after c =
     ∙ ap (λ all. first_of (drop (length before) all)) (answers_from_append m first_book before (c ∷ after))
     ∙ ap first_of (drop_at (answers_to m before) more (length before) (length_answers_to m before))
 
--- every refusal for overload names a row that misses
+-- so does every answer to a call of a list
 pub overloads_miss : (m : Meaning) → Laws m → OverloadsMiss m
-overloads_miss m laws before after c at there =
-    let b = book_after m before in
+overloads_miss m laws before after c a there =
     let same = sym there ∙ answer_at m before after c in
-    let answered : refuses Overload at ≡ (step m b c).1 = cc in
-    overload_misses m laws b (runs_sound m before).stand c at (answered ∙ step_answers m b c)
+    let answered : a ≡ (step m (book_after m before) c).1 = cc in
+    overload_misses m laws (book_after m before) (runs_sound m before).stand c a answered

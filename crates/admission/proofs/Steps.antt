@@ -13,7 +13,7 @@ use Rattle.rows.specs.declared.refusals.Refusal.{Refusal}
 use Rattle.rows.specs.declared.refusals.Refusal.TheVariants.{BadFrame, StandingRows, NoRank, Overload}
 use Rattle.rows.specs.declared.tasks.Numbers.{Numbers}
 use Rattle.rows.specs.declared.tasks.Row.{Row}
-use Rattle.rows.specs.Answers.{Answer, gives, refuses, Check, check_each, checked, Passes}
+use Rattle.rows.specs.Answers.{Answer, gives, refuses, checked, Passes}
 use Rattle.rows.specs.Counting.{is_on_frame}
 use Rattle.rows.specs.Times.{is_frame, most_rows}
 use Rattle.rows.proofs.Checks.{first_passes, each_passes}

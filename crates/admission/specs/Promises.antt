@@ -1,12 +1,12 @@
--- What holds of a bench after every list of calls.
-use Rattle.std.specs.Prelude.{◌≡◌, ℕ, ◌+◌, ◌≤◌, false, List, [], ◌∷◌, ◌++◌, length, Some, None, nat_lt}
+-- What holds of a bench: of its rows, of what each call replies, and after every list of calls.
+use Rattle.std.specs.Prelude.{◌≡◌, ◌≢◌, ℕ, ◌+◌, ◌≤◌, false, List, [], ◌∷◌, ◌++◌, length, Some, None, nat_lt}
 use Rattle.std.specs.List.{AllPass}
 use Rattle.rows.specs.declared.frames.FrameNumbers.{FrameNumbers}
 use Rattle.rows.specs.declared.refusals.Refusal.{Refusal}
 use Rattle.rows.specs.declared.refusals.Refusal.TheVariants.{Overload, ShortList}
 use Rattle.rows.specs.declared.tasks.Numbers.{Numbers}
 use Rattle.rows.specs.declared.tasks.Row.{Row}
-use Rattle.rows.specs.Answers.{Check, check, gives, refuses}
+use Rattle.rows.specs.Answers.{Answer, Check, check, gives, refuses}
 use Rattle.rows.specs.Books.{Book}
 use Rattle.rows.specs.Lists.{at_rank}
 use Rattle.bounds.specs.Meaning.{Meaning}
@@ -16,10 +16,12 @@ use Rattle.findings.specs.Findings.{row_finding}
 use Rattle.findings.specs.Tables.{findings_of}
 use Rattle.brackets.specs.Bracketing.{IsNoLater, slow_rest}
 use Rattle.admission.specs.declared.calls.Call.{Call}
-use Rattle.admission.specs.declared.calls.Call.TheVariants.{Admit}
-use Rattle.rows.specs.Found.{is_met}
+use Rattle.admission.specs.declared.calls.Call.TheVariants.{Admit, Inquire}
+use Rattle.admission.specs.declared.calls.Reply.{Reply}
+use Rattle.admission.specs.declared.calls.Reply.TheVariants.{Found as FoundRow}
+use Rattle.rows.specs.Found.{Found, is_met, tells}
 use Rattle.admission.specs.Books.{step, with_newcomer}
-use Rattle.admission.specs.Replies.{done, tells_rank}
+use Rattle.admission.specs.Replies.{Told, done, tells_rank}
 use Rattle.admission.specs.Runs.{book_after, answers_to}
 
 -- what is checked of a list of calls that is to be replied to into so many places: short list
@@ -36,11 +38,29 @@ pub record MeetsByBoth (m : Meaning) (h : FrameNumbers) (r : Row) (above : List 
   pub order : exact ≤ rest
   pub slow : IsNoLater (Some rest) (slow_rest m.accuracy r above)
 
--- after every list of calls each standing row meets so, below the rows before it
+-- each row of a book meets so, below the rows before it
+abbrev pub RowsMeetByBoth : Meaning → Book → Type 0
+RowsMeetByBoth m b =
+    (xs ys : List Row) (r : Row) → b.rows ≡ xs ++ r ∷ ys → MeetsByBoth m b.frame r xs
+
+-- after every list of calls each row of the book meets so
 abbrev pub StandingRowsMeet : Meaning → Type 0
-StandingRowsMeet m =
-    (calls : List Call) (xs ys : List Row) (r : Row) → (book_after m calls).rows ≡ xs ++ r ∷ ys
-    → MeetsByBoth m (book_after m calls).frame r xs
+StandingRowsMeet m = (calls : List Call) → RowsMeetByBoth m (book_after m calls)
+
+-- a row stands at a rank of a book, what is found is its finding below the rows before it, and it meets so
+pub record StandsAndMeets (m : Meaning) (b : Book) (rank : ℕ) (r : Row) (f : Found) : Type 0 where
+  pub above : List Row
+  pub below : List Row
+  pub table : b.rows ≡ above ++ r ∷ below
+  pub place : rank ≡ length above + 1
+  pub finding : f ≡ row_finding m b.frame r above
+  pub meets : MeetsByBoth m b.frame r above
+
+-- where the reply to an inquiry tells a row and a finding, the row stands at the rank, the finding is its own, and it
+-- meets so
+abbrev pub TellsStanding : Meaning → Book → Call → Reply → Type 0
+TellsStanding m b (Inquire rank) (FoundRow r finding) = StandsAndMeets m b rank r (tells finding)
+TellsStanding m b c reply = Unit {0}
 
 -- the rank at names the first row of a table that misses by a bound of accuracy k, and that row misses in exact steps
 -- at speed k / (k + 1)
@@ -54,14 +74,19 @@ pub record NamesMiss (m : Meaning) (h : FrameNumbers) (rows : List Row) (at : �
   pub misses : (row_finding m h row above).rest ≡ None
   pub slow : slow_rest m.accuracy row above ≡ None
 
--- a refusal for overload, at any place of any list of calls, is the answer to an admit, and names such a row with the
+-- an answer to a call on a book, where it refuses for overload, is that to an admit, and names such a row with the
 -- newcomer put in at its rank
+abbrev pub OverloadMisses : Meaning → Book → Call → Answer Told → Type 0
+OverloadMisses m b (Admit rank n) a =
+    (at : ℕ) → a ≡ refuses Overload at → NamesMiss m b.frame (with_newcomer rank n b.rows) at
+OverloadMisses m b c a = (at : ℕ) → a ≢ refuses Overload at
+
+-- so it is with every answer, at any place of any list of calls
 abbrev pub OverloadsMiss : Meaning → Type 0
 OverloadsMiss m =
-    (before after : List Call) (c : Call) (at : ℕ)
-    → at_rank (length before + 1) (answers_to m (before ++ c ∷ after)) ≡ Some (refuses Overload at)
-    → (rank : ℕ) × (n : Numbers) × (c ≡ Admit rank n)
-    × NamesMiss m (book_after m before).frame (with_newcomer rank n (book_after m before).rows) at
+    (before after : List Call) (c : Call) (a : Answer Told)
+    → at_rank (length before + 1) (answers_to m (before ++ c ∷ after)) ≡ Some a
+    → OverloadMisses m (book_after m before) c a
 
 -- a refusal of another kind tells 0, whatever the call and the book
 abbrev pub OthersTellZero : Type 0

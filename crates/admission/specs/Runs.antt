@@ -1,11 +1,12 @@
 -- The book after a list of calls, and the answers to it.
-use Rattle.std.specs.Prelude.{List, [], ◌∷◌}
+use Rattle.std.specs.Prelude.{◌≡◌, List, [], ◌∷◌, ◌++◌}
 use Rattle.rows.specs.Answers.{Answer}
 use Rattle.rows.specs.Books.{Book}
 use Rattle.bounds.specs.Meaning.{Meaning}
 use Rattle.admission.specs.declared.calls.Call.{Call}
+use Rattle.admission.specs.declared.calls.Reply.{Reply}
 use Rattle.admission.specs.Books.{first_book, step}
-use Rattle.admission.specs.Replies.{Told}
+use Rattle.admission.specs.Replies.{Told, answer_of}
 
 -- the book that calls come to from another book, one after the other
 abbrev pub book_from : Meaning → Book → List Call → Book
@@ -24,3 +25,13 @@ book_after m calls = book_from m first_book calls
 -- the answers of a new bench to a list of calls
 abbrev pub answers_to : Meaning → List Call → List (Answer Told)
 answers_to m calls = answers_from m first_book calls
+
+-- a call goes on from a list of calls: the book afterwards is that of the list with the call at its end, and the reply
+-- is the last answer to that list
+pub record GoesOnFrom (m : Meaning) (calls : List Call) (c : Call) (new : Book) (reply : Reply) : Type 0 where
+  pub book : new ≡ book_after m (calls ++ c ∷ [])
+  pub answers : answers_to m (calls ++ c ∷ []) ≡ answers_to m calls ++ answer_of reply ∷ []
+
+-- a call goes on from every list of calls that leads to the book before it
+abbrev pub GoesOn : Meaning → Call → Book → Book → Reply → Type 0
+GoesOn m c old new reply = (calls : List Call) → old ≡ book_after m calls → GoesOnFrom m calls c new reply

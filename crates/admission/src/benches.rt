@@ -35,7 +35,9 @@ impl<B: Bound> Bench<B> {
     ghost use Rattle.findings.specs.Tables.{findings_of};
     ghost use Rattle.admission.specs.Benches.{bench, Does};
     ghost use Rattle.admission.specs.Books.{first_book};
-    ghost use Rattle.admission.specs.Replies.{as_done, as_found, IfRefused};
+    ghost use Rattle.admission.specs.Promises.{OverloadMisses, RowsMeetByBoth, TellsStanding};
+    ghost use Rattle.admission.specs.Replies.{answer_of, as_done, as_found, IfRefused};
+    ghost use Rattle.admission.specs.Runs.{GoesOn};
     ghost use Rattle.admission.specs.declared.calls.Call.{Call};
 
     /// A new bench: its bound, frame 1 and no row.
@@ -55,22 +57,27 @@ impl<B: Bound> Bench<B> {
         &self.bound
     }
 
-    /// The frame, and the rows that stand, in rank order: at most 32, all on the frame.
+    /// The frame, and the rows that stand, in rank order: at most 32, all on the frame. Each meets by
+    /// the bound and in exact steps (docs/RULES.md, After every list of calls).
     pub fn table(&self) -> &Table
         ensures answered { result.now ≡ self.now.book }
         ensures stand { IsJudged self.now.book }
+        ensures both { RowsMeetByBoth (B.meaning self.now.bound) self.now.book }
     {
         let _rows = self.kept.table.rows();
         &self.kept.table
     }
 
-    /// The findings of the rows, in rank order (docs/RULES.md, The bench): those of a survey. All meet.
+    /// The findings of the rows, in rank order (docs/RULES.md, The bench): those of a survey. All meet,
+    /// and in exact steps each row rests no later.
     pub fn findings(&self) -> &[Finding]
         ensures answered { map tells result.now ≡ self.now.findings }
         ensures surveyed { self.now.findings
             ≡ findings_of (B.meaning self.now.bound) self.now.book.frame self.now.book.rows }
         ensures meet { AllPass is_met self.now.findings }
+        ensures both { RowsMeetByBoth (B.meaning self.now.bound) self.now.book }
     {
+        let _rows = self.kept.table.rows();
         self.kept.findings.as_slice()
     }
 
@@ -81,6 +88,8 @@ impl<B: Bound> Bench<B> {
     pub fn set_frame(&mut self, frame: FrameNumbers) -> Result<(), Fault>
         ensures does { Does (B.meaning self.old.bound) (Call.Frame frame)
             self.old self.new (as_done result) }
+        ensures goes_on { GoesOn (B.meaning self.old.bound) (Call.Frame frame)
+            self.old.book self.new.book (as_done result) }
         ensures refused { OnErr result (self.new ≡ self.old) }
     {
         let rows_stand = self.kept.table.len() > 0;
@@ -102,6 +111,10 @@ impl<B: Bound> Bench<B> {
     pub fn admit(&mut self, rank: usize, numbers: Numbers) -> Result<(), Fault>
         ensures does { Does (B.meaning self.old.bound) (Call.Admit rank numbers)
             self.old self.new (as_done result) }
+        ensures goes_on { GoesOn (B.meaning self.old.bound) (Call.Admit rank numbers)
+            self.old.book self.new.book (as_done result) }
+        ensures overload { OverloadMisses (B.meaning self.old.bound) self.old.book
+            (Call.Admit rank numbers) (answer_of (as_done result)) }
         ensures refused { OnErr result (self.new ≡ self.old) }
     {
         let row = numbers.judge_on(self.kept.table.frame(), 0)?;
@@ -125,6 +138,8 @@ impl<B: Bound> Bench<B> {
     pub fn dismiss(&mut self, rank: usize) -> Result<(), Fault>
         ensures does { Does (B.meaning self.old.bound) (Call.Dismiss rank)
             self.old self.new (as_done result) }
+        ensures goes_on { GoesOn (B.meaning self.old.bound) (Call.Dismiss rank)
+            self.old.book self.new.book (as_done result) }
         ensures refused { OnErr result (self.new ≡ self.old) }
     {
         check_rank(self.kept.table.len(), rank)?;
@@ -133,15 +148,20 @@ impl<B: Bound> Bench<B> {
     }
 
     /// The row at a rank and its finding (docs/RULES.md, The bench). As every row that stands, it is
-    /// on the frame and meets.
+    /// on the frame, and meets by the bound and in exact steps.
     ///
     /// Refused with 10, no rank, at 0 where no row stands at the rank (docs/REFUSALS.md).
     pub fn inquire(&self, rank: usize) -> Result<(Row, Finding), Fault>
         ensures does { Does (B.meaning self.now.bound) (Call.Inquire rank)
             self.now self.now (as_found result) }
+        ensures goes_on { GoesOn (B.meaning self.now.bound) (Call.Inquire rank)
+            self.now.book self.now.book (as_found result) }
+        ensures told { TellsStanding (B.meaning self.now.bound) self.now.book
+            (Call.Inquire rank) (as_found result) }
         ensures stand { IsJudged self.now.book }
         ensures meet { AllPass is_met
             (findings_of (B.meaning self.now.bound) self.now.book.frame self.now.book.rows) }
+        ensures both { RowsMeetByBoth (B.meaning self.now.bound) self.now.book }
     {
         let rows = self.kept.table.rows();
         check_rank(rows.len(), rank)?;
@@ -151,6 +171,10 @@ impl<B: Bound> Bench<B> {
     /// Makes a call that is given as a value, and replies as that call does: one of the four above.
     pub fn call(&mut self, call: Call) -> Reply
         ensures does { Does (B.meaning self.old.bound) call self.old self.new result }
+        ensures goes_on { GoesOn (B.meaning self.old.bound) call self.old.book self.new.book result }
+        ensures overload { OverloadMisses (B.meaning self.old.bound) self.old.book call
+            (answer_of result) }
+        ensures told { TellsStanding (B.meaning self.old.bound) self.old.book call result }
         ensures refused { IfRefused result (self.new ≡ self.old) }
     {
         match call {

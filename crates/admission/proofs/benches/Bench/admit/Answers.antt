@@ -1,8 +1,10 @@
-use Rattle.std.proofs.Common.{sym, ◌∙◌, subst}
+use Rattle.std.proofs.Common.{sym, ◌∙◌, subst, rules}
 use Rattle.admission.specs.declared.calls.Call.TheVariants.{Admit}
 use Rattle.admission.specs.declared.calls.Reply.TheVariants.{Done, Refused}
 use Rattle.admission.specs.Benches.{Does}
-use Rattle.admission.proofs.Called.{admits_so, entering, kept_with, overloads_so, seen}
+use Rattle.admission.proofs.Called.{admits_so, entering, kept_with, overloads_so, seen, seen_sound}
+use Rattle.admission.proofs.Overloads.{overload_named}
+use Rattle.admission.proofs.Runs.{goes_on}
 use Rattle.admission.proofs.benches.Bench.admit.Goals as goal
 
 pub returns-clause-does : goal.returns-clause-does
@@ -41,3 +43,34 @@ returns-in-Some-clause-does g c =
     (overloads_so
     (g.B.Bound.meaning s.bound) s.bound s.kept c.self.invariant c.args.rank c.args.numbers c.in_ok-row.row enters
     new.result new.ensures.counted new.ensures.table c.in-Some.place (sym c.first_miss.ensures ∙ c.in-Some.is)))
+
+pub returns-clause-goes_on : goal.returns-clause-goes_on
+returns-clause-goes_on g c = goes_on _ (returns-clause-does g c)
+
+pub returns-in-Some-clause-goes_on : goal.returns-in-Some-clause-goes_on
+returns-in-Some-clause-goes_on g c = goes_on _ (returns-in-Some-clause-does g c)
+
+pub returns-in_err-row-clause-does : goal.returns-in_err-row-clause-does
+returns-in_err-row-clause-does g c = search rules
+
+pub returns-in_err-row-clause-goes_on : goal.returns-in_err-row-clause-goes_on
+returns-in_err-row-clause-goes_on g c = goes_on _ (returns-in_err-row-clause-does g c)
+
+pub returns-then-count-eq-MOST_ROWS-clause-does : goal.returns-then-count-eq-MOST_ROWS-clause-does
+returns-then-count-eq-MOST_ROWS-clause-does g c = search rules
+
+pub returns-then-count-eq-MOST_ROWS-clause-goes_on : goal.returns-then-count-eq-MOST_ROWS-clause-goes_on
+returns-then-count-eq-MOST_ROWS-clause-goes_on g c = goes_on _ (returns-then-count-eq-MOST_ROWS-clause-does g c)
+
+pub returns-in_err-check_rank-clause-does : goal.returns-in_err-check_rank-clause-does
+returns-in_err-check_rank-clause-does g c = search rules
+
+pub returns-in_err-check_rank-clause-goes_on : goal.returns-in_err-check_rank-clause-goes_on
+returns-in_err-check_rank-clause-goes_on g c = goes_on _ (returns-in_err-check_rank-clause-does g c)
+
+pub returns-in-Some-clause-overload : goal.returns-in-Some-clause-overload
+returns-in-Some-clause-overload g c =
+    overload_named (g.met.B.Bound.lawful c.args.self.now.bound)
+    (seen_sound g.B.Bound.meaning c.self.inside.bound c.self.inside.kept c.args.self.now c.self.view_is
+    c.len-count.ensures.judged c.self.invariant)
+    (returns-in-Some-clause-does g c)

@@ -1,17 +1,17 @@
-use Rattle.std.proofs.Common.{◌≡◌, ◌-◌, ◌≤◌, get_or, length, ap, ap₂, sym, ◌∙◌, refl, subst, arith}
-use Rattle.std.proofs.lemmas.List.{length-map}
+use Rattle.std.proofs.Common.{◌≡◌, ◌-◌, ◌≤◌, get_or, length, ap, ap₂, sym, ◌∙◌, refl, subst, arith, rules}
 use Rattle.rows.specs.Judging.{plain}
 use Rattle.rows.specs.declared.verdicts.Finding.{Finding}
 use Rattle.rows.specs.declared.verdicts.Verdict.TheVariants.{Meets}
 use Rattle.rows.specs.Found.{tells}
 use Rattle.rows.proofs.Ranked.{ranked}
-use Rattle.findings.proofs.Tables.{length_findings_below}
 use Rattle.admission.specs.declared.calls.Call.TheVariants.{Inquire}
 use Rattle.admission.specs.declared.calls.Reply.TheVariants.{Found}
 use Rattle.admission.specs.Benches.{Does}
 use Rattle.admission.specs.Replies.{row_found}
-use Rattle.admission.proofs.Called.{does_so, inquired, kept_is, seen}
+use Rattle.admission.proofs.Called.{does_so, inquired, kept_is, seen, seen_sound}
 use Rattle.admission.proofs.Counted.{many_kept}
+use Rattle.admission.proofs.Runs.{goes_on}
+use Rattle.admission.proofs.Standing.{rows_meet, told_so}
 use Rattle.admission.proofs.benches.Bench.inquire.Goals as goal
 
 pub bounds-as_slice-rank : goal.bounds-as_slice-rank
@@ -50,3 +50,33 @@ returns-clause-does g c =
     (Found (get_or kept.table.rows i d) (get_or kept.findings.items i e))
     (row_found (plain (get_or kept.table.rows i d)) (tells (get_or kept.findings.items i e)))
     (inquired m kept c.self.invariant c.args.rank rank.0 high d e) refl (kept_is m s.bound kept c.self.invariant)))
+
+pub returns-clause-goes_on : goal.returns-clause-goes_on
+returns-clause-goes_on g c = goes_on _ (returns-clause-does g c)
+
+pub returns-clause-told : goal.returns-clause-told
+returns-clause-told g c =
+    told_so (g.met.B.Bound.lawful c.args.self.now.bound)
+    (seen_sound g.B.Bound.meaning c.self.inside.bound c.self.inside.kept c.args.self.now c.self.view_is
+    c.rows-rows.ensures.judged c.self.invariant)
+    (returns-clause-does g c)
+
+pub returns-clause-both : goal.returns-clause-both
+returns-clause-both g c =
+    let now = c.args.self.now in
+    rows_meet (g.B.Bound.meaning now.bound) (g.met.B.Bound.lawful now.bound) now.book
+    (seen_sound g.B.Bound.meaning c.self.inside.bound c.self.inside.kept now c.self.view_is c.rows-rows.ensures.judged
+    c.self.invariant)
+
+pub returns-in_err-check_rank-clause-does : goal.returns-in_err-check_rank-clause-does
+returns-in_err-check_rank-clause-does g c = search rules
+
+pub returns-in_err-check_rank-clause-goes_on : goal.returns-in_err-check_rank-clause-goes_on
+returns-in_err-check_rank-clause-goes_on g c = goes_on _ (returns-in_err-check_rank-clause-does g c)
+
+pub returns-in_err-check_rank-clause-both : goal.returns-in_err-check_rank-clause-both
+returns-in_err-check_rank-clause-both g c =
+    let now = c.args.self.now in
+    rows_meet (g.B.Bound.meaning now.bound) (g.met.B.Bound.lawful now.bound) now.book
+    (seen_sound g.B.Bound.meaning c.self.inside.bound c.self.inside.kept now c.self.view_is c.rows-rows.ensures.judged
+    c.self.invariant)

@@ -1,7 +1,6 @@
-use Rattle.std.proofs.Common.{◌≡◌, ◌-◌, ◌+◌, ◌≤◌, length, map, subst, sym, ap, ◌∙◌, arith, take}
+use Rattle.std.proofs.Common.{◌≡◌, ◌-◌, length, subst, sym, ap, ◌∙◌, arith, take}
 use Rattle.std.specs.List.{insert}
 use Rattle.rows.specs.Books.{book}
-use Rattle.rows.specs.Found.{tells}
 use Rattle.rows.proofs.Checks.{when_ok}
 use Rattle.rows.proofs.Moved.{length_insert}
 use Rattle.findings.specs.Tables.{findings_of}
