@@ -1,5 +1,6 @@
 -- What holds of a bench: of its rows, of what each call replies, and after every list of calls.
 use Rattle.std.specs.Prelude.{◌≡◌, ◌≢◌, ℕ, ◌+◌, ◌≤◌, false, List, [], ◌∷◌, ◌++◌, length, Some, None, nat_lt}
+use Rattle.std.specs.Prelude.{Ok, Err, Result}
 use Rattle.std.specs.List.{AllPass}
 use Rattle.rows.specs.declared.frames.FrameNumbers.{FrameNumbers}
 use Rattle.rows.specs.declared.refusals.Refusal.{Refusal}
@@ -19,6 +20,7 @@ use Rattle.admission.specs.declared.calls.Call.{Call}
 use Rattle.admission.specs.declared.calls.Call.TheVariants.{Admit, Inquire}
 use Rattle.admission.specs.declared.calls.Reply.{Reply}
 use Rattle.admission.specs.declared.calls.Reply.TheVariants.{Found as FoundRow}
+use Rattle.admission.specs.declared.unplayed.NotPlayed.{NotPlayed}
 use Rattle.rows.specs.Found.{Found, is_met, tells}
 use Rattle.admission.specs.Books.{step, with_newcomer}
 use Rattle.admission.specs.Replies.{Told, done, tells_rank}
@@ -27,6 +29,11 @@ use Rattle.admission.specs.Runs.{book_after, answers_to}
 -- what is checked of a list of calls that is to be replied to into so many places: short list
 abbrev pub play_checks : List Call → ℕ → List Check
 play_checks calls places = check (nat_lt places (length calls)) ShortList 0 ∷ []
+
+-- what the playing of a list of calls refuses: nothing, or as the fault says with which the bound comes back
+abbrev pub play_refusal : {X B : Type 0} → Result X (NotPlayed B) → Answer (Unit {0})
+play_refusal (Ok bench) = gives tt
+play_refusal (Err not_played) = refuses not_played.fault.refusal not_played.fault.at
 
 -- a row meets by a bound of accuracy k and in exact steps: exactly it rests no later than by the bound, and by the
 -- bound no later than exactly at speed k / (k + 1), where it rests at that speed

@@ -159,12 +159,19 @@ fn played_calls(rt: HostRuntime) -> Result<(), Fail> {
     Ok(())
 }
 
+// The bound comes back, and can be counted by again.
 #[test]
-fn too_few_places(rt: HostRuntime) {
+fn too_few_places(rt: HostRuntime) -> Result<(), Fail> {
     let calls = [Call::Frame(FRAME), Call::Admit(1, A)];
     let stays = [Reply::Refused(Refusal::OffFrame.at(7))];
     let mut replies = stays;
-    let refused = play(ExactSteps, &calls, &mut replies).err();
-    assert_eq!(rt; refused, Some(Refusal::ShortList.at(0)));
+    let Err(not_played) = play(LinearTail::new(2)?, &calls, &mut replies) else {
+        return Err(Fail::new("two calls were played into one place"));
+    };
+    assert_eq!(rt; not_played.fault, Refusal::ShortList.at(0));
     assert_eq!(rt; replies, stays);
+    let mut more = [Reply::Done; 2];
+    let bench = play(not_played.bound, &calls, &mut more)?;
+    assert_eq!(rt; standing(&bench, 1)?, (A, meets(1, 1)));
+    Ok(())
 }
