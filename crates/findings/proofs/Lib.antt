@@ -1,11 +1,11 @@
 pub mod Turning
 pub mod Amounts
 pub mod Exacts
-pub mod Kept
 pub mod Nearest
 pub mod Points
 pub mod SetFlags
 pub mod Blocks
+pub mod Kept
 pub mod OnFrame
 pub mod Walk
 pub mod FixedPoint

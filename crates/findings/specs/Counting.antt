@@ -1,8 +1,20 @@
 -- What corners are counted by: an instant before which each row above has none, and flags for a block of instants.
-use Rattle.std.specs.Prelude.{◌≡◌, ℕ, ◌<◌, Bool, false, List, length, sum_by, slice_index_or, if◌then◌else◌}
+use Rattle.std.specs.Prelude.{◌≡◌, ℕ, ◌+◌, ◌<◌, Bool, false, List, length, sum_by, slice_index_or, if◌then◌else◌}
 use Rattle.rows.specs.declared.tasks.Row.{Row}
+use Rattle.std.specs.Option.{unwrap_or}
+use Rattle.rows.specs.Times.{horizon}
+use Rattle.bounds.specs.Meaning.{Meaning}
+use Rattle.bounds.specs.Answering.{corner_after}
 use Rattle.findings.specs.Demand.{Load}
 use Rattle.findings.specs.Points.{is_bend}
+
+-- corners up to here are flagged for all rows of a table
+abbrev pub near : ℕ
+near = 512
+
+-- the next corner of a row after t, or one past the horizon where it has none
+abbrev pub next_after : Meaning → ℕ → Row → ℕ
+next_after m t r = unwrap_or (corner_after m r t) (horizon + 1)
 
 -- t is a corner of some row above
 abbrev pub is_corner_above : Load → ℕ → Bool

@@ -6,8 +6,8 @@ pub mod Findings
 pub mod Tables
 pub mod Asking
 pub mod Countable
+pub mod Counting
 pub mod Prepared
 pub mod Loads
-pub mod Counting
 pub mod Exact
 pub mod Lent

@@ -1,16 +1,17 @@
-// How many test points there are, counted apart from the search: corners are marked in blocks of
-// flags, and instants without corners are passed over.
+// How many test points there are, counted apart from the search: near corners are flagged already, far
+// ones are marked in blocks of flags, and instants without corners are passed over.
 ghost use Rattle.std.specs.Prelude.{◌≡◌, ◌+◌, ◌-◌, ◌<◌, ◌≤◌, fold, length, min};
 ghost use Rattle.rows.specs.Times.{horizon};
 ghost use Rattle.bounds.specs.Instants.{count};
 ghost use Rattle.bounds.specs.Marks.{Marks};
-ghost use Rattle.findings.specs.Counting.{LookAhead, is_corner_above};
+ghost use Rattle.findings.specs.Counting.{LookAhead, is_corner_above, near};
 ghost use Rattle.findings.specs.Loads.{load_of};
 
 use crate::flags::count_set;
 use crate::loads::Load;
+use crate::preparing::NEAR;
 use bounds::Bound;
-use rows::{HORIZON, MOST_ROWS};
+use rows::HORIZON;
 
 // How many instants have a flag in a block: a narrow one where testing stops early, since all flags
 // are cleared first.
@@ -80,17 +81,26 @@ impl<'a, B: Bound> Load<'a, B> {
         count_set(block)
     }
 
-    // How many distinct corners the rows above have up to the instant, counted block by block.
-    fn corners(&self, end: u32, flags: &mut [bool]) -> u32
+    // How many distinct corners the rows above have up to the instant, where those up to an earlier one
+    // are counted: block by block.
+    fn blocks(
+        &self,
+        counted: u32,
+        seen: u32,
+        end: u32,
+        nexts: &mut [u32],
+        flags: &mut [bool],
+    ) -> u32
         requires near { end ≤ horizon }
+        requires within { seen ≤ end }
+        requires counted { counted ≡ count (is_corner_above (load_of self.now)) seen }
+        requires ahead { LookAhead (load_of self.now) seen nexts.old }
         requires room { 1 ≤ length flags.old }
         requires few { length flags.old < 65536 }
         ensures { result ≡ count (is_corner_above (load_of self.now)) end }
     {
-        let mut nexts = [1; MOST_ROWS];
-        let nexts = &mut nexts[..self.above.len()];
-        let mut corners = 0;
-        let mut from = 1;
+        let mut corners = counted;
+        let mut from = nearest(nexts, end + 1);
         let mut most = flags.len();
         while from <= end {
             let width = most.min((end - from + 1) as usize);
@@ -102,18 +112,33 @@ impl<'a, B: Bound> Load<'a, B> {
         corners
     }
 
-    // How many instants up to the end are corners, by blocks of as many flags as serve.
+    // How many distinct corners the rows above have up to an instant past the near one, where those up
+    // to there are counted: by blocks of as many flags as serve.
+    fn far_corners(&self, counted: u32, end: u32) -> u32
+        requires near { end ≤ horizon }
+        requires within { near ≤ end }
+        requires counted { counted ≡ count (is_corner_above (load_of self.now)) near }
+        ensures { result ≡ count (is_corner_above (load_of self.now)) end }
+    {
+        let mut nexts = self.prepared.nexts;
+        let nexts = &mut nexts[..self.above.len()];
+        if end as usize <= MIDDLE {
+            self.blocks(counted, NEAR as u32, end, nexts, &mut [false; MIDDLE])
+        } else {
+            self.blocks(counted, NEAR as u32, end, nexts, &mut [false; WIDE])
+        }
+    }
+
+    // How many distinct corners the rows above have up to the instant.
     fn distinct_corners(&self, end: u32) -> u32
         requires { end ≤ horizon }
         ensures { result ≡ count (is_corner_above (load_of self.now)) end }
     {
-        if end as usize <= NARROW {
-            self.corners(end, &mut [false; NARROW])
-        } else if end as usize <= MIDDLE {
-            self.corners(end, &mut [false; MIDDLE])
-        } else {
-            self.corners(end, &mut [false; WIDE])
+        let flags = &self.prepared.flags;
+        if end as usize <= NEAR {
+            return count_set(&flags[..end as usize]);
         }
+        self.far_corners(count_set(flags), end)
     }
 
     // How many test points there are where testing stops at the first that is not before the

@@ -8,13 +8,19 @@ ghost use Rattle.findings.specs.Prepared.{Prepares};
 
 use crate::lines::Line;
 use bounds::{Bound, OnFrame};
-use rows::{Frame, MOST_ROWS, Row};
+use rows::{Frame, HORIZON, MOST_ROWS, Row};
 
-// The rows on their frame, in rank order, and a line below their steps.
+// Corners up to here are flagged for all rows of a table.
+pub(crate) const NEAR: usize = 512;
+
+// The rows on their frame in rank order, a line below their steps, flags for their corners up to the
+// near instant, and the next corner of each past that, or one past the horizon.
 #[derive(Drop)]
 pub(crate) struct Prepared {
     pub(crate) rows: [OnFrame; MOST_ROWS],
     pub(crate) line: Line,
+    pub(crate) flags: [bool; NEAR],
+    pub(crate) nexts: [u32; MOST_ROWS],
 }
 
 impl Prepared {
@@ -25,6 +31,8 @@ impl Prepared {
         Prepared {
             rows: [OnFrame::default(); MOST_ROWS],
             line: Line::new(),
+            flags: [false; NEAR],
+            nexts: [0; MOST_ROWS],
         }
     }
 
@@ -39,6 +47,8 @@ impl Prepared {
         let row = &rows[place];
         self.rows[place] = OnFrame::new(ticks, row).unwrap();
         self.line = self.line.with_row(ticks, row);
+        let next = bound.mark(row, 0, &mut self.flags);
+        self.nexts[place] = next.unwrap_or(HORIZON + 1);
     }
 
     // What is kept of rows.

@@ -1,4 +1,4 @@
-use Rattle.std.proofs.Common.{◌≡◌, ℕ, ◌+◌, get_or, ap, ap₂, ◌∙◌, arith}
+use Rattle.std.proofs.Common.{ℕ, ◌+◌, ap, ap₂, ◌∙◌, arith}
 use Rattle.rows.specs.declared.tasks.Row.{Row}
 use Rattle.findings.specs.Loads.{load_of}
 use Rattle.findings.proofs.Exacts.{part_fits, sum_with}

@@ -4,12 +4,13 @@ use Rattle.bounds.specs.Instants.{count}
 use Rattle.bounds.specs.Lemmas.Instants.{count_le}
 use Rattle.findings.specs.Counting.{is_corner_above}
 use Rattle.findings.specs.Loads.{load_of}
-use Rattle.findings.proofs.Blocks.{counted_on, counted_none}
-use Rattle.findings.proofs.loads.Load.corners.Goals as goal
+use Rattle.findings.proofs.Blocks.{counted_on}
+use Rattle.findings.proofs.loads.Load.blocks.Goals as goal
 
 pub loop-from-init : goal.loop-from-init
 loop-from-init g c = record {
-  counted = counted_none (load_of c.args.self.now) c.args.end (omega (arith, c.args.self.now.countable.few));
+  counted = (counted_on (load_of c.args.self.now) c.args.end c.args.seen c.nearest-from.result c.args.nexts.now
+      c.args.counted c.requires.within c.requires.ahead c.requires.counted c.nearest-from.ensures).1;
   some = c.requires.room;
   most = omega arith;
 }
@@ -22,16 +23,15 @@ overflow_add-corners g c =
     (omega (arith, c.min-width.ensures, c.loop-from.invariant.most)) in
     let few = count_le p (c.loop-from.from - 1 + length (take c.min-width.result c.loop-from.flags)) in
     record {
-      fits =
-          omega (
-            arith,
-            few,
-            width,
-            c.min-width.ensures,
-            c.count_block-found.ensures.counted,
-            c.loop-from.invariant.counted.tally,
-            c.requires.near,
-          );
+      fits = omega (
+        arith,
+        few,
+        width,
+        c.min-width.ensures,
+        c.count_block-found.ensures.counted,
+        c.loop-from.invariant.counted.tally,
+        c.requires.near,
+      );
     }
 
 pub loop-from-smaller : goal.loop-from-smaller
@@ -41,16 +41,25 @@ loop-from-smaller g c =
     length-take-le c.min-width.result c.loop-from.flags
     (omega (arith, c.min-width.ensures, c.loop-from.invariant.most)) in
     let reached = c.loop-from.from - 1 + length (take c.min-width.result c.loop-from.flags) in
-    let within : reached ≤ c.args.end =
-    omega (arith, width, c.min-width.ensures, c.loop-from.invariant.counted.low, c.loop-from-test.true) in
+    let within : reached ≤ c.args.end = omega (
+      arith,
+      width,
+      c.min-width.ensures,
+      c.loop-from.invariant.counted.low,
+      c.loop-from-test.true,
+    ) in
     let tally : c.loop-from.corners + c.count_block-found.result ≡ count (is_corner_above l) reached =
     omega (arith, c.count_block-found.ensures.counted, c.loop-from.invariant.counted.tally) in
-    let (later, counted) =
-    counted_on l c.args.end reached c.nearest-from.result c.count_block-found.new.nexts _ within
-    c.count_block-found.ensures.ahead tally c.nearest-from.ensures in
-    let some : 1 ≤ c.min-width.result =
-    omega (arith, c.min-width.ensures, c.loop-from-test.true, c.loop-from.invariant.some) in
-    let fewer : c.args.end + 1 - c.nearest-from.result < c.args.end + 1 - c.loop-from.from =
+    let (later, counted) = counted_on l c.args.end reached c.nearest-from-in-loop-from.result
+    c.count_block-found.new.nexts _ within c.count_block-found.ensures.ahead tally
+    c.nearest-from-in-loop-from.ensures in
+    let some : 1 ≤ c.min-width.result = omega (
+      arith,
+      c.min-width.ensures,
+      c.loop-from-test.true,
+      c.loop-from.invariant.some,
+    ) in
+    let fewer : c.args.end + 1 - c.nearest-from-in-loop-from.result < c.args.end + 1 - c.loop-from.from =
     omega (arith, later, width, some, c.loop-from-test.true) in
     fewer
 
@@ -61,11 +70,16 @@ loop-from-preserved g c =
     length-take-le c.min-width.result c.loop-from.flags
     (omega (arith, c.min-width.ensures, c.loop-from.invariant.most)) in
     let reached = c.loop-from.from - 1 + length (take c.min-width.result c.loop-from.flags) in
-    let within : reached ≤ c.args.end =
-    omega (arith, width, c.min-width.ensures, c.loop-from.invariant.counted.low, c.loop-from-test.true) in
+    let within : reached ≤ c.args.end = omega (
+      arith,
+      width,
+      c.min-width.ensures,
+      c.loop-from.invariant.counted.low,
+      c.loop-from-test.true,
+    ) in
     let tally : c.loop-from.corners + c.count_block-found.result ≡ count (is_corner_above l) reached =
     omega (arith, c.count_block-found.ensures.counted, c.loop-from.invariant.counted.tally) in
-    let (later, counted) =
-    counted_on l c.args.end reached c.nearest-from.result c.count_block-found.new.nexts _ within
-    c.count_block-found.ensures.ahead tally c.nearest-from.ensures in
+    let (later, counted) = counted_on l c.args.end reached c.nearest-from-in-loop-from.result
+    c.count_block-found.new.nexts _ within c.count_block-found.ensures.ahead tally
+    c.nearest-from-in-loop-from.ensures in
     record { counted = counted; some = c.next_width-most.ensures.some; most = c.next_width-most.ensures.within }
