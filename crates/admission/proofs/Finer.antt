@@ -20,7 +20,7 @@ use Rattle.admission.specs.declared.calls.Call.TheVariants.{Admit}
 use Rattle.rows.specs.Found.{is_met, is_miss}
 use Rattle.rows.specs.Books.{Book}
 use Rattle.admission.specs.Books.{entry_checks, overload_check, with_newcomer, step}
-use Rattle.admission.specs.Promises.{FinerAdmits, FinerRests}
+use Rattle.admission.specs.Promises.{FinerAdmits, FinerAdmitsOn, FinerRests, FinerRestsOn}
 use Rattle.admission.specs.Replies.{done}
 use Rattle.admission.specs.Runs.{book_after}
 use Rattle.admission.proofs.Findings.{each_meets, all_met}
@@ -50,18 +50,26 @@ finer_admit k k' b rank n low order stand admits =
     ∙ sym (passed_first (entry_checks b rank n) (overload_check m' b rank n ∷ []) tt tt passed.0 done)
     ∙ places_pass_on is_miss (λ i. i + 1) (findings_of m' b.frame rows) Overload (gives done) none
 
+-- so it is on every book whose rows stand on its frame
+pub finer_admits_on : (b : Book) → StandOn b.frame.ticks b.rows → FinerAdmitsOn b
+finer_admits_on b stand k k' low order rank n admits = finer_admit k k' b rank n low order stand admits
+
+-- on such a book no row rests later by the more accurate
+pub finer_rests_on : (b : Book) → StandOn b.frame.ticks b.rows → FinerRestsOn b
+finer_rests_on b stand k k' low order xs ys r split =
+    finer_tails k k' b.frame r xs low order (stands_before b.frame.ticks b.rows xs (r ∷ ys) stand split)
+
 -- of benches whose books have come to agree the more accurate admits what the other does
 pub finer_admits : FinerAdmits
 finer_admits k k' calls calls' low order same rank n admits =
+    let b = book_after (linear_tail k) calls in
     subst (λ b. (step (linear_tail k') b (Admit rank n)).1 ≡ gives done) same
-    (finer_admit k k' (book_after (linear_tail k) calls) rank n low order
-    (runs_sound (linear_tail k) calls).stand admits)
+    (finer_admits_on b (runs_sound (linear_tail k) calls).stand k k' low order rank n admits)
 
 -- of benches whose books have come to agree no row rests later by the more accurate
 pub finer_rests : FinerRests
 finer_rests k k' calls calls' low order same xs ys r split =
     let b = book_after (linear_tail k) calls in
-    let stand = stands_before b.frame.ticks b.rows xs (r ∷ ys) (runs_sound (linear_tail k) calls).stand split in
     subst (λ other.
     IsNoLater (row_finding (linear_tail k') other.frame r xs).rest (row_finding (linear_tail k) b.frame r xs).rest)
-    same (finer_tails k k' b.frame r xs low order stand)
+    same (finer_rests_on b (runs_sound (linear_tail k) calls).stand k k' low order xs ys r split)

@@ -101,6 +101,18 @@ OthersTellZero =
     (m : Meaning) (b : Book) (c : Call) (r : Refusal) (at : ℕ)
     → (step m b c).1 ≡ refuses r at → tells_rank r ≡ false → at ≡ 0
 
+-- on a book a newcomer that is admitted at a rank by a linear tail is admitted there by every more accurate one
+abbrev pub FinerAdmitsOn : Book → Type 0
+FinerAdmitsOn b =
+    (k k' : ℕ) → 1 ≤ k → k ≤ k' → (rank : ℕ) (n : Numbers) → (step (linear_tail k) b (Admit rank n)).1 ≡ gives done
+    → (step (linear_tail k') b (Admit rank n)).1 ≡ gives done
+
+-- on a book no row rests later by the more accurate of two linear tails
+abbrev pub FinerRestsOn : Book → Type 0
+FinerRestsOn b =
+    (k k' : ℕ) → 1 ≤ k → k ≤ k' → (xs ys : List Row) (r : Row) → b.rows ≡ xs ++ r ∷ ys
+    → IsNoLater (row_finding (linear_tail k') b.frame r xs).rest (row_finding (linear_tail k) b.frame r xs).rest
+
 -- of two benches by linear tails whose books have come to agree, whatever lists of calls led there, the one that is at
 -- least as accurate admits at each rank every newcomer that the other admits there
 abbrev pub FinerAdmits : Type 0

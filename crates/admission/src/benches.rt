@@ -35,6 +35,7 @@ impl<B: Bound> Bench<B> {
     ghost use Rattle.findings.specs.Tables.{findings_of};
     ghost use Rattle.admission.specs.Benches.{bench, Does};
     ghost use Rattle.admission.specs.Books.{first_book};
+    ghost use Rattle.admission.specs.Promises.{FinerAdmitsOn, FinerRestsOn};
     ghost use Rattle.admission.specs.Promises.{OverloadMisses, RowsMeetByBoth, TellsStanding};
     ghost use Rattle.admission.specs.Replies.{answer_of, as_done, as_found, IfRefused};
     ghost use Rattle.admission.specs.Runs.{GoesOn};
@@ -58,11 +59,14 @@ impl<B: Bound> Bench<B> {
     }
 
     /// The frame, and the rows that stand, in rank order: at most 32, all on the frame. Each meets by
-    /// the bound and in exact steps (docs/RULES.md, After every list of calls).
+    /// the bound and in exact steps, and a newcomer that a linear tail admits to them is admitted by
+    /// every more accurate one (docs/RULES.md, After every list of calls).
     pub fn table(&self) -> &Table
         ensures answered { result.now ≡ self.now.book }
         ensures stand { IsJudged self.now.book }
         ensures both { RowsMeetByBoth (B.meaning self.now.bound) self.now.book }
+        ensures finer_admits { FinerAdmitsOn self.now.book }
+        ensures finer_rests { FinerRestsOn self.now.book }
     {
         let _rows = self.kept.table.rows();
         &self.kept.table
