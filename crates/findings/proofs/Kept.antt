@@ -9,7 +9,7 @@ use Rattle.std.proofs.lemmas.List.{get_or-map, get_or-replicate, get_or-set_othe
 use Rattle.std.proofs.lemmas.List.{length-map}
 use Rattle.std.proofs.lemmas.List.{length-replicate, length-set, length-take-le, map-append, take-set-le}
 use Rattle.rows.specs.declared.tasks.Row.{Row}
-use Rattle.rows.specs.Times.{horizon}
+use Rattle.rows.specs.Times.{horizon, most_rows}
 use Rattle.bounds.specs.declared.questions.OnFrame.{OnFrame}
 use Rattle.bounds.specs.Instants.{count}
 use Rattle.bounds.specs.Marks.{Marks}
@@ -84,6 +84,18 @@ told_ahead l t xs low is = record {
     (next_ahead l.bound _ t _ low (told_at l.bound t l.above xs is k (there l.above k small) small)).0,
     λ r u from to. (next_ahead l.bound _ t _ low (told_at l.bound t l.above xs is k r small)).1 u from to,
   );
+}
+
+-- where nothing is known of what is ahead, the next instant is looked ahead to
+pub anew_ahead : (l : Load) (t : ℕ) → length l.above ≤ most_rows
+    → LookAhead l t (take (length l.above) (replicate most_rows (t + 1)))
+anew_ahead l t few = record {
+  size = length-take-le (length l.above) (replicate most_rows (t + 1)) few;
+  each = λ k small.
+      let next : slice_index_or (take (length l.above) (replicate most_rows (t + 1))) k 0 ≡ t + 1 =
+      get_or-take (length l.above) (replicate most_rows (t + 1)) k 0 small
+      ∙ get_or-replicate most_rows k (t + 1) 0 (omega arith) in
+      (omega (arith, next), λ r u low high. absurd (omega (arith, next)));
 }
 
 -- the flags of the first near instants count the corners up to there

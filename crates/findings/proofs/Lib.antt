@@ -6,6 +6,7 @@ pub mod Points
 pub mod SetFlags
 pub mod Blocks
 pub mod Kept
+pub mod Turns
 pub mod OnFrame
 pub mod Walk
 pub mod FixedPoint

@@ -9,5 +9,6 @@ pub mod Countable
 pub mod Counting
 pub mod Prepared
 pub mod Loads
+pub mod Trees
 pub mod Exact
 pub mod Lent

@@ -4,7 +4,7 @@ ghost use Rattle.std.specs.Prelude.{◌≡◌, ◌+◌, ◌-◌, ◌<◌, ◌≤
 ghost use Rattle.rows.specs.Times.{horizon};
 ghost use Rattle.bounds.specs.Instants.{count};
 ghost use Rattle.bounds.specs.Marks.{Marks};
-ghost use Rattle.findings.specs.Counting.{LookAhead, is_corner_above, near};
+ghost use Rattle.findings.specs.Counting.{LookAhead, is_corner_above};
 ghost use Rattle.findings.specs.Loads.{load_of};
 
 use crate::flags::count_set;
@@ -82,7 +82,7 @@ impl<'a, B: Bound> Load<'a, B> {
     }
 
     // How many distinct corners the rows above have up to the instant, where those up to an earlier one
-    // are counted: block by block.
+    // are counted: block by block of the flags.
     fn blocks(
         &self,
         counted: u32,
@@ -112,20 +112,19 @@ impl<'a, B: Bound> Load<'a, B> {
         corners
     }
 
-    // How many distinct corners the rows above have up to an instant past the near one, where those up
-    // to there are counted: by blocks of as many flags as serve.
-    fn far_corners(&self, counted: u32, end: u32) -> u32
+    // How many distinct corners the rows above have up to the instant, where those up to an earlier one
+    // are counted: by blocks of as many flags as serve.
+    pub(crate) fn by_blocks(&self, counted: u32, seen: u32, end: u32, nexts: &mut [u32]) -> u32
         requires near { end ≤ horizon }
-        requires within { near ≤ end }
-        requires counted { counted ≡ count (is_corner_above (load_of self.now)) near }
+        requires within { seen ≤ end }
+        requires counted { counted ≡ count (is_corner_above (load_of self.now)) seen }
+        requires ahead { LookAhead (load_of self.now) seen nexts.old }
         ensures { result ≡ count (is_corner_above (load_of self.now)) end }
     {
-        let mut nexts = self.prepared.nexts;
-        let nexts = &mut nexts[..self.above.len()];
         if end as usize <= MIDDLE {
-            self.blocks(counted, NEAR as u32, end, nexts, &mut [false; MIDDLE])
+            self.blocks(counted, seen, end, nexts, &mut [false; MIDDLE])
         } else {
-            self.blocks(counted, NEAR as u32, end, nexts, &mut [false; WIDE])
+            self.blocks(counted, seen, end, nexts, &mut [false; WIDE])
         }
     }
 
@@ -138,7 +137,12 @@ impl<'a, B: Bound> Load<'a, B> {
         if end as usize <= NEAR {
             return count_set(&flags[..end as usize]);
         }
-        self.far_corners(count_set(flags), end)
+        let counted = count_set(flags);
+        if self.is_sparse() {
+            return self.merged(counted, end);
+        }
+        let mut nexts = self.prepared.nexts;
+        self.by_blocks(counted, NEAR as u32, end, &mut nexts[..self.above.len()])
     }
 
     // How many test points there are where testing stops at the first that is not before the

@@ -8,12 +8,14 @@ mod flags;
 mod lending;
 mod lines;
 mod loads;
+mod merging;
 mod preparing;
 mod questions;
 mod recounting;
 mod searching;
 mod sizes;
 mod skipping;
+mod trees;
 
 pub use asking::find;
 pub use questions::Demand;

@@ -1,0 +1,124 @@
+use Rattle.std.proofs.Common.{◌≡◌, ℕ, ◌<◌, get_or, unwrap_or, refl, ◌+◌, ◌*◌, ◌/◌, ◌%◌, ◌≤◌, slice_index_or, slice_set}
+use Rattle.std.proofs.Common.{length, take, ap, sym, ◌∙◌, arith}
+use Rattle.std.proofs.lemmas.Grind.{get_or-set_at}
+use Rattle.std.proofs.lemmas.List.{get_or_default, length-set}
+use Rattle.rows.specs.declared.tasks.Row.{Row}
+use Rattle.std.proofs.lemmas.Nat.{mod_below}
+use Rattle.rows.specs.Times.{horizon}
+use Rattle.bounds.specs.Lemmas.Instants.{count_le}
+use Rattle.findings.specs.Counting.{near, is_corner_above, next_after}
+use Rattle.findings.specs.Loads.{load_of}
+use Rattle.findings.proofs.Kept.{told_ahead}
+use Rattle.findings.proofs.Turns.{turns_start, next_turn, counted_before, counted_there, turns_on, root_least, turn_at}
+use Rattle.findings.proofs.Turns.{leaves_raised}
+use Rattle.findings.proofs.loads.Load.merged.Goals as goal
+
+pub planted-keys-requires-clause-near : goal.planted-keys-requires-clause-near
+planted-keys-requires-clause-near g c k small =
+    let l = load_of c.args.self.now in
+    let nexts = take (length l.above) c.args.self.now.prepared.now.nexts in
+    let ahead = told_ahead l near nexts (omega arith) c.args.self.now.kept.ahead in
+    (turns_start l near nexts (omega arith) c.args.self.now.kept.ahead k (omega (arith, ahead.size))).high
+
+pub loop-init : goal.loop-init
+loop-init g c =
+    let l = load_of c.args.self.now in
+    let nexts = take (length l.above) c.args.self.now.prepared.now.nexts in
+    let is = c.args.self.now.kept.ahead in
+    record {
+      size = (told_ahead l near nexts (omega arith) is).size;
+      within = c.requires.within;
+      tally = c.requires.counted;
+      turns = turns_start l near nexts (omega arith) is;
+      tree = c.planted-keys.ensures.tree;
+      leaves = c.planted-keys.ensures.leaves;
+    }
+
+pub returns-then-at-end : goal.returns-then-at-end
+returns-then-at-end g c =
+    let l = load_of c.args.self.now in
+    let known = c.loop.invariant in
+    let least = root_least c.loop.keys c.loop.nexts known.tree known.leaves
+    (omega (arith, known.size, c.args.self.now.countable.few)) in
+    known.tally ∙ sym (counted_before l c.loop.seen (slice_index_or c.loop.keys 1 0 / 32) c.loop.nexts known.turns
+    (λ k small. least k (omega (arith, known.size))) c.args.end known.within c.if-at-end.true)
+
+pub one_more-corners-requires : goal.one_more-corners-requires
+one_more-corners-requires g c = omega (
+  arith,
+  c.loop.invariant.tally,
+  count_le
+      (is_corner_above (load_of c.args.self.now)) c.loop.seen,
+  c.loop.invariant.within,
+  c.requires.near,
+)
+
+pub overflow_mul-nexts : goal.overflow_mul-nexts
+overflow_mul-nexts g c =
+    let l = load_of c.args.self.now in
+    let known = c.loop.invariant in
+    let place = slice_index_or c.loop.keys 1 0 % 32 in
+    let at = slice_index_or c.loop.keys 1 0 / 32 in
+    let turn = turn_at c.loop.nexts place at (sym c.if-not-is_turn.ensures) in
+    let next = next_turn l at place c.unwrap_or.result c.index-self-place.result
+    (omega (arith, c.if-at-end.false, c.requires.near)) (omega (arith, known.size, turn.0))
+    (c.unwrap_or.ensures ∙ ap (λ o. unwrap_or o (horizon + 1)) c.corner_after-next.ensures) in
+    let there = get_or-set_at c.loop.nexts place place c.unwrap_or.result 0 refl turn.0 in
+    record { fits = omega (arith, there, next.1.high) }
+
+pub overflow_add-nexts : goal.overflow_add-nexts
+overflow_add-nexts g c =
+    let l = load_of c.args.self.now in
+    let known = c.loop.invariant in
+    let place = slice_index_or c.loop.keys 1 0 % 32 in
+    let at = slice_index_or c.loop.keys 1 0 / 32 in
+    let turn = turn_at c.loop.nexts place at (sym c.if-not-is_turn.ensures) in
+    let next = next_turn l at place c.unwrap_or.result c.index-self-place.result
+    (omega (arith, c.if-at-end.false, c.requires.near)) (omega (arith, known.size, turn.0))
+    (c.unwrap_or.ensures ∙ ap (λ o. unwrap_or o (horizon + 1)) c.corner_after-next.ensures) in
+    let there = get_or-set_at c.loop.nexts place place c.unwrap_or.result 0 refl turn.0 in
+    record { fits = omega (arith, there, next.1.high, mod_below (slice_index_or c.loop.keys 1 0) 32 (omega arith)) }
+
+pub raise-requires-clause-more : goal.raise-requires-clause-more
+raise-requires-clause-more g c =
+    let l = load_of c.args.self.now in
+    let known = c.loop.invariant in
+    let place = slice_index_or c.loop.keys 1 0 % 32 in
+    let at = slice_index_or c.loop.keys 1 0 / 32 in
+    let turn = turn_at c.loop.nexts place at (sym c.if-not-is_turn.ensures) in
+    let next = next_turn l at place c.unwrap_or.result c.index-self-place.result
+    (omega (arith, c.if-at-end.false, c.requires.near)) (omega (arith, known.size, turn.0))
+    (c.unwrap_or.ensures ∙ ap (λ o. unwrap_or o (horizon + 1)) c.corner_after-next.ensures) in
+    let there = get_or-set_at c.loop.nexts place place c.unwrap_or.result 0 refl turn.0 in
+    omega (arith, there, next.0, known.leaves place turn.0, turn.1)
+
+pub loop-preserved : goal.loop-preserved
+loop-preserved g c =
+    let l = load_of c.args.self.now in
+    let known = c.loop.invariant in
+    let place = slice_index_or c.loop.keys 1 0 % 32 in
+    let at = slice_index_or c.loop.keys 1 0 / 32 in
+    let x = c.unwrap_or.result in
+    let turn = turn_at c.loop.nexts place at (sym c.if-not-is_turn.ensures) in
+    let small : place < length l.above = omega (arith, known.size, turn.0) in
+    let near : at ≤ horizon = omega (arith, c.if-at-end.false, c.requires.near) in
+    let root = root_least c.loop.keys c.loop.nexts known.tree known.leaves
+    (omega (arith, known.size, c.args.self.now.countable.few)) in
+    let least : (k : ℕ) → k < length l.above → at ≤ slice_index_or c.loop.nexts k 0 =
+    λ k low. root k (omega (arith, known.size, low)) in
+    let told = c.unwrap_or.ensures ∙ ap (λ o. unwrap_or o (horizon + 1)) c.corner_after-next.ensures in
+    let next : (r : Row) → x ≡ next_after l.bound at (get_or l.above place r) = λ r. told
+    ∙ ap (next_after l.bound at) (get_or_default l.above place c.index-self-place.result r small) in
+    let set : slice_index_or (slice_set c.loop.nexts place x) place 0 ≡ x =
+    get_or-set_at c.loop.nexts place place x 0 refl turn.0 in
+    record {
+      size = length-set c.loop.nexts place x ∙ known.size;
+      within = c.if-at-end.false;
+      tally = c.one_more-corners.ensures ∙ counted_there l c.loop.seen at c.loop.nexts known.turns least place small
+          turn.1 near c.loop.corners known.tally;
+      turns = turns_on l c.loop.seen at c.loop.nexts known.turns least place small turn.1 near x next known.size;
+      tree = c.raise.ensures.tree;
+      leaves = leaves_raised c.loop.keys c.raise.new.keys c.loop.nexts place x known.leaves turn.0
+          (mod_below (slice_index_or c.loop.keys 1 0) 32 (omega arith))
+          (c.raise.ensures.there ∙ ap (λ n. n * 32 + place) set) c.raise.ensures.others;
+    }
