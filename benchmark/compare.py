@@ -1,9 +1,12 @@
-"""Compares C programs with the independent count of reference/counts.py on small random tables.
+"""Compares programs that play works with the independent counts of reference/ on random tables.
 
     python3 benchmark/compare.py PROGRAM ..
 
 Each table is a work of its own, surveyed in exact steps and by a linear tail, and where all of its rows meet a
-row of it is swapped. The tables come from a fixed seed.
+row of it is swapped. Most tables are small, and counted instant by instant (reference/counts.py). Of the others
+the last row has a long window: the rows above leave so little time that it rests late, and by a tail later still,
+or its points are many, or few in the longest window that there is (reference/pieces.py). The tables come from fixed
+seeds.
 """
 
 import random
@@ -13,9 +16,14 @@ from pathlib import Path
 
 sys.path.append(str(Path(__file__).parent.parent / "reference"))
 
-from counts import EXACT_STEPS, LINEAR_TAILS, survey
+import pieces
+from counts import EXACT_STEPS, LINEAR_TAILS, steps, survey
 
 TABLES = 600
+LATE, CROWDED, SPARSE = 120, 30, 20
+HORIZON = 2**24
+WIDE_FRAMES = (55_440, 65_536, 332_640, 720_720, 1_000_000, 1_441_440)
+ACCURACIES = (1, 2, 3, 5, 8, 17, 40, 63, 64)
 FRAMES = (1, 12, 60, 128, 210, 256, 2520)
 WORD = 2**64
 
@@ -39,6 +47,60 @@ def random_table(source):
     return frame, rows
 
 
+def divisors(frame, least, most):
+    """The numbers from least to most that divide a frame."""
+    return [number for number in range(least, min(most, frame) + 1) if frame % number == 0]
+
+
+def late_table(source):
+    """Rows that leave 1 instant in some hundreds or thousands, above one that rests late, if it does."""
+    frame = source.choice(WIDE_FRAMES)
+    shortest = source.choice((4, 16, 60, 250))
+    periods = divisors(frame, shortest, 20 * shortest)
+    chosen = sorted(source.choice(periods) for _ in range(source.randint(2, 5)))
+    rows = [[max(1, period * 9 // (10 * len(chosen))), period, period, 0] for period in chosen]
+    free = frame - frame // source.choice((60, 300, 1500, 6000))
+    free -= sum(work * (frame // period) for work, _, period, _ in rows)
+    for row in rows[::-1]:
+        row[0] += min(max(0, free) // (frame // row[2]), row[2] - row[0])
+        row[3] = source.choice((0, source.randint(0, row[2] - row[0])))
+        free = frame - frame // 6000 - sum(work * (frame // period) for work, _, period, _ in rows)
+    for _ in range(source.randint(0, 2)):  # it hardly works, but a test point by a tail may lie where the last one rests
+        period = source.choice(divisors(frame, 1000, frame))
+        rows.append((1, period, period, source.randrange(period)))
+    work = source.randint(1, source.choice((10, 200)))
+    window = min(frame, source.choice((work * 500, 20_000, 300_000)))
+    return frame, [tuple(row) for row in rows] + [(work, max(work, window), frame, 0)]
+
+
+def crowded_table(source):
+    """Rows with a corner at few instants' distance, above one that rests where a block of corners may end, or near."""
+    frame = source.choice(WIDE_FRAMES[2:])
+    end = source.choice((0, 512)) + 16_384 * source.randint(1, 5) + source.randint(-1, 2)
+    rows = []
+    for apart in (0, 1):  # a corner there, and at the next instant
+        period = source.choice(divisors(frame, 64, 30_000))
+        rows.append((1, period, period, -(end + apart) % period))
+    for _ in range(source.randint(1, 8)):
+        period = source.choice(divisors(frame, 40, 300))
+        work = source.randint(1, period // 24 + 1)
+        rows.append((work, period, period, source.randint(0, period - work)))
+    work = max(1, end - sum(steps(row, end) for row in rows))
+    return frame, rows + [(work, min(frame, max(work, end + source.randint(-1, 3))), frame, 0)]
+
+
+def sparse_table(source):
+    """Rows of long periods above one that has the horizon for its window, or nearly so."""
+    rows = []
+    for _ in range(source.choice((2, 8, 31))):
+        period = 2 ** source.randint(17, 23)
+        work = source.randint(1, period // 40)
+        rows.append((work, period, period, source.choice((0, source.randint(0, period - work)))))
+    window = HORIZON - source.choice((0, 0, source.randint(0, HORIZON // 2)))
+    free = window - sum(steps(row, window) for row in rows)
+    return HORIZON, rows + [(free + source.choice((1, 0, -source.randint(0, free // 2))), window, HORIZON, 0)]
+
+
 def digested(digest, findings):
     """The digest of findings after others."""
     for rest, points in findings:
@@ -47,33 +109,51 @@ def digested(digest, findings):
     return digest
 
 
-def works(source):
-    """The text of the works, and the lines that are to be printed."""
+def works_of(source, number, frame, rows, accuracy, count):
+    """The texts of the works of a table, and the lines that are to be printed."""
+    body = f"table {frame}\n" + "".join("row {} {} {} {}\n".format(*row) for row in rows)
+    for name, words, bound in (
+        ("exact", "exact 64", EXACT_STEPS),
+        ("linear", f"linear {accuracy}", LINEAR_TAILS[accuracy]),
+    ):
+        found = count(frame, bound, rows)
+        met = sum(rest is not None for rest, _ in found)
+        told = f"tables 1 rows {len(rows)} met {met} digest"
+        title = f"{name}-{number}"
+        yield f"work {title} survey {words} 1\n{body}", f"{title} {told} {digested(0, found)}\n"
+        if met < len(rows):
+            continue
+        rank = source.randint(1, len(rows))
+        left = count(frame, bound, rows[: rank - 1] + rows[rank:])
+        digest = digested(digested(digested(0, left), found), found)
+        title = f"swap-{name}-{number}"
+        yield f"work {title} swap-{rank} {words} 2\n{body}", f"{title} {told} {digest}\n"
+
+
+def small_works(source):
+    """The works of small tables."""
     for number in range(TABLES):
         frame, rows = random_table(source)
         accuracy = source.choice((1, 2, 3, 8, 64))
-        body = f"table {frame}\n" + "".join("row {} {} {} {}\n".format(*row) for row in rows)
-        for name, words, bound in (
-            ("exact", "exact 64", EXACT_STEPS),
-            ("linear", f"linear {accuracy}", LINEAR_TAILS[accuracy]),
-        ):
-            found = survey(frame, bound, rows)
-            met = sum(rest is not None for rest, _ in found)
-            told = f"tables 1 rows {len(rows)} met {met} digest"
-            title = f"{name}-{number}"
-            yield f"work {title} survey {words} 1\n{body}", f"{title} {told} {digested(0, found)}\n"
-            if met < len(rows):
-                continue
-            rank = source.randint(1, len(rows))
-            left = survey(frame, bound, rows[: rank - 1] + rows[rank:])
-            digest = digested(digested(digested(0, left), found), found)
-            title = f"swap-{name}-{number}"
-            yield f"work {title} swap-{rank} {words} 2\n{body}", f"{title} {told} {digest}\n"
+        yield from works_of(source, number, frame, rows, accuracy, survey)
+
+
+def long_works(source):
+    """The works of tables with long windows; late ones by several accuracies each time."""
+    for kind, table, number_of in (
+        ("late", late_table, LATE),
+        ("crowded", crowded_table, CROWDED),
+        ("sparse", sparse_table, SPARSE),
+    ):
+        for number in range(number_of):
+            frame, rows = table(source)
+            accuracy = ACCURACIES[number % len(ACCURACIES)]
+            yield from works_of(source, f"{kind}-{number}", frame, rows, accuracy, pieces.survey)
 
 
 def main(programs):
     """Compares each program, and tells the lines that differ."""
-    pairs = list(works(random.Random(20240229)))
+    pairs = [*small_works(random.Random(20240229)), *long_works(random.Random(20260311))]
     text = "".join(pair[0] for pair in pairs)
     wanted = [pair[1] for pair in pairs]
     status = 0

@@ -1,7 +1,8 @@
 """Counts by docs/RULES.md alone and by brute force: each amount from its definition, each instant tried in turn.
 
 A row is a tuple (C, D, T, J) of valid numbers, `above` a tuple of the rows above it in rank order, a frame and
-an instant are plain numbers, and a bound is EXACT_STEPS or one of LINEAR_TAILS. All numbers are whole.
+an instant are plain numbers, and a bound is EXACT_STEPS, one of LINEAR_TAILS, or `Batches` of an accuracy and a size,
+the bound that docs/OWN_BOUND.md brings. All numbers are whole.
 
 Nothing here knows that test points are enough, that demand never falls, or what one bound tells about another:
 a first rest is the least instant that was tried and found one. `check_case` holds the counts of a case to what
@@ -101,6 +102,34 @@ class LinearTail:
         _, _, period, jitter = row
         corners = [number * period - jitter for number in range(1, self.accuracy)]
         return [corner for corner in corners if corner < end]
+
+
+class Batches:
+    """The bound of docs/OWN_BOUND.md: jobs are counted in batches of a size once they fill as many as its accuracy."""
+
+    most = HORIZON
+
+    def __init__(self, accuracy, size):
+        """The bound by batches of an accuracy and a size."""
+        assert 1 <= accuracy <= MOST_ACCURACY and 1 <= size <= HORIZON
+        self.accuracy = accuracy
+        self.size = size
+
+    def amount(self, frame, row, instant):
+        """f(t) in parts."""
+        work, _, period, jitter = row
+        jobs = -(-(instant + jitter) // period)
+        if jobs >= self.accuracy * self.size:
+            jobs = -(-jobs // self.size) * self.size
+        return frame * work * jobs
+
+    def amounts(self, frame, row, instants):
+        """f(t) at each of some instants."""
+        return [self.amount(frame, row, instant) for instant in instants]
+
+    def corners_before(self, row, end):
+        """The corners that are smaller than an instant: wherever exact steps rise."""
+        return EXACT_STEPS.corners_before(row, end)
 
 
 EXACT_STEPS = ExactSteps()

@@ -1,8 +1,8 @@
 //! Asks the library stored questions from standard input, and prints its answers (docs/PROGRAMS.md).
 //!
 //! A line `=== KIND` stands before the questions of a kind, and is printed before their answers:
-//! `=== leaves`, `=== leaves cut`, `=== leaves changed`, `=== sheets` or `=== rows` before lines that
-//! are a question each, and `=== script N` before the lines of one script. `reference/` makes the
+//! `=== leaves`, `=== leaves cut`, `=== leaves changed`, `=== sheets`, `=== rows` or `=== rows batches`
+//! before lines that are a question each, and `=== script N` before the lines of one script. `reference/` makes the
 //! questions, and the answers that are wanted, by docs/ alone. Nothing is compared here.
 #![tactic(auto)]
 

@@ -1,38 +1,41 @@
 // What is answered about a row.
 use crate::row_questions::RowQuestion;
 use crate::told::{OrNone, ToldAnswer};
-use bounds::{Bound, ExactSteps};
+use batches::Batches;
+use bounds::{Bound, ExactSteps, LinearTail};
 use brackets::{Counts, count_both, least_accuracy, response_time, slow_rest};
 use findings::find;
-use rows::{Fault, Finding, Table};
+use rows::{Fault, Finding, Row, Table};
 use std::fmt;
 use std::io::Write;
 
+// What `find` answers about a row by a bound, where the rows above it are a table.
+fn find_by<B: Bound>(bound: &B, row: &Row, table: Result<&Table, Fault>) -> ToldAnswer<Found> {
+    ToldAnswer(table.and_then(|table| find(bound, row, table)).map(Found))
+}
+
+// What `count_both` answers.
+fn count_both_by<B: Bound>(bound: &B, row: &Row, table: Result<&Table, Fault>) -> ToldAnswer<Both> {
+    ToldAnswer(
+        table
+            .and_then(|table| count_both(bound, row, table))
+            .map(Both),
+    )
+}
+
 /// Prints what each call about a row answers: `find` in exact steps and by the linear tail,
 /// `count_both` by that tail, `response_time`, `least_accuracy`, and `slow_rest` by its accuracy.
-pub(crate) fn answer_row<W: Write + Drop>(
+pub(crate) fn answer_by_tail<W: Write + Drop>(
+    tail: &LinearTail,
     question: &RowQuestion,
     writer: &mut W,
 ) -> anyhow::Result<()> {
-    let RowQuestion {
-        frame,
-        tail,
-        above,
-        row,
-    } = question;
-    let table = frame.judge().and_then(|frame| Table::of(&frame, above));
+    let RowQuestion { above, row, .. } = question;
+    let table = question.table();
     let table = table.as_ref().map_err(|fault| *fault);
-    let exact = ToldAnswer(
-        table
-            .and_then(|table| find(&ExactSteps, row, table))
-            .map(Found),
-    );
-    let bounded = ToldAnswer(table.and_then(|table| find(tail, row, table)).map(Found));
-    let both = ToldAnswer(
-        table
-            .and_then(|table| count_both(tail, row, table))
-            .map(Both),
-    );
+    let exact = find_by(&ExactSteps, row, table);
+    let bounded = find_by(tail, row, table);
+    let both = count_both_by(tail, row, table);
     let response = ToldAnswer(response_time(row, above).map(OrNone));
     let least = ToldAnswer(
         table
@@ -44,6 +47,20 @@ pub(crate) fn answer_row<W: Write + Drop>(
         writer,
         "{exact}, {bounded}, {both}, {response}, {least}, {slow}"
     )?;
+    Ok(())
+}
+
+/// Prints what two calls about a row answer by batches: `find`, and `count_both`.
+pub(crate) fn answer_by_batches<W: Write + Drop>(
+    batches: &Batches,
+    question: &RowQuestion,
+    writer: &mut W,
+) -> anyhow::Result<()> {
+    let table = question.table();
+    let table = table.as_ref().map_err(|fault| *fault);
+    let bounded = find_by(batches, &question.row, table);
+    let both = count_both_by(batches, &question.row, table);
+    writeln!(writer, "{bounded}, {both}")?;
     Ok(())
 }
 

@@ -1,28 +1,45 @@
 // Questions about a row.
 use anyhow::{Context, bail};
+use batches::Batches;
 use bounds::LinearTail;
-use rows::{FrameNumbers, Numbers, Row};
+use rows::{Fault, FrameNumbers, Numbers, Row, Table};
 use std::alloc::Global;
 use std::str;
 
-/// A row below others, on a frame that nobody has judged, with the linear tail by which it is counted
-/// beside the exact steps.
+/// A row below others, on a frame that nobody has judged.
 #[derive(Drop)]
 pub(crate) struct RowQuestion {
     pub(crate) frame: FrameNumbers,
-    pub(crate) tail: LinearTail,
     pub(crate) above: Vec<Row>,
     pub(crate) row: Row,
 }
 
+/// The question that a line tells, and the linear tail by which it is counted beside the exact steps:
+/// the frame, the accuracy of the tail, and the rows.
+pub(crate) fn with_tail(alloc: Global, line: &[u8]) -> anyhow::Result<(LinearTail, RowQuestion)> {
+    let numbers = numbers(alloc, str::from_utf8(line)?)?;
+    let [frame, accuracy, rows @ ..] = numbers.as_slice() else {
+        bail!("no frame and accuracy");
+    };
+    let question = RowQuestion::of(alloc, *frame, rows)?;
+    Ok((LinearTail::new(*accuracy)?, question))
+}
+
+/// The question that a line tells, and the batches by which it is counted: the frame, the accuracy and
+/// the size of a batch, and the rows.
+pub(crate) fn with_batches(alloc: Global, line: &[u8]) -> anyhow::Result<(Batches, RowQuestion)> {
+    let numbers = numbers(alloc, str::from_utf8(line)?)?;
+    let [frame, accuracy, size, rows @ ..] = numbers.as_slice() else {
+        bail!("no frame, accuracy and size");
+    };
+    let question = RowQuestion::of(alloc, *frame, rows)?;
+    Ok((Batches::new(*accuracy, *size)?, question))
+}
+
 impl RowQuestion {
-    /// The question that a line tells: the frame, the accuracy of the linear tail, and four numbers
-    /// for each row in rank order, the last of which is the row asked about.
-    pub(crate) fn parse(alloc: Global, line: &[u8]) -> anyhow::Result<RowQuestion> {
-        let numbers = numbers(alloc, str::from_utf8(line)?)?;
-        let [frame, accuracy, rows @ ..] = numbers.as_slice() else {
-            bail!("no frame and accuracy");
-        };
+    // The question of a frame and of four numbers for each row in rank order, the last of which is
+    // the row asked about.
+    fn of(alloc: Global, frame: u32, rows: &[u32]) -> anyhow::Result<RowQuestion> {
         let mut above = Vec::new(alloc);
         for numbers in rows.chunks(4) {
             let rank = u32::try_from(above.len())?.saturating_add(1);
@@ -30,11 +47,15 @@ impl RowQuestion {
         }
         let row = above.pop().context("no row")?;
         Ok(RowQuestion {
-            frame: FrameNumbers { ticks: *frame },
-            tail: LinearTail::new(*accuracy)?,
+            frame: FrameNumbers { ticks: frame },
             above,
             row,
         })
+    }
+
+    /// The table of the rows above.
+    pub(crate) fn table(&self) -> Result<Table, Fault> {
+        Table::of(&self.frame.judge()?, &self.above)
     }
 }
 

@@ -1,7 +1,7 @@
 // Sections: stored questions of one kind.
 use crate::leaf_answers::{answer_changes, answer_cuts, answer_leaf};
-use crate::row_answers::answer_row;
-use crate::row_questions::RowQuestion;
+use crate::row_answers::{answer_by_batches, answer_by_tail};
+use crate::row_questions::{with_batches, with_tail};
 use crate::sheet_answers::answer_in_buffers;
 use anyhow::{bail, ensure};
 use scripts::run;
@@ -11,7 +11,7 @@ use std::str;
 
 /// A section, by what is asked in it: about strings of bytes as leaves, each as it stands there, cut
 /// at every length, or with each byte changed to every value; about strings of bytes as
-/// sheets; about rows; or about one script, with its lines as far as they have come.
+/// sheets; about rows, by linear tails or by batches; or about one script, with its lines as far as they have come.
 #[derive(Drop)]
 pub(crate) enum Section {
     Leaves,
@@ -19,6 +19,7 @@ pub(crate) enum Section {
     LeavesChanged,
     Sheets,
     Rows,
+    RowsInBatches,
     Script(Vec<u8>),
 }
 
@@ -34,6 +35,7 @@ impl Section {
             ["===", "leaves", "changed"] => Ok(Section::LeavesChanged),
             ["===", "sheets"] => Ok(Section::Sheets),
             ["===", "rows"] => Ok(Section::Rows),
+            ["===", "rows", "batches"] => Ok(Section::RowsInBatches),
             ["===", "script", _] => Ok(Section::Script(Vec::new(alloc))),
             _ => bail!("no kind of questions"),
         }
@@ -51,7 +53,14 @@ impl Section {
             Section::LeavesCut => answer_cuts(alloc, &decoded(alloc, line)?, writer),
             Section::LeavesChanged => answer_changes(alloc, &decoded(alloc, line)?, writer),
             Section::Sheets => answer_in_buffers(alloc, &decoded(alloc, line)?, writer),
-            Section::Rows => answer_row(&RowQuestion::parse(alloc, line)?, writer),
+            Section::Rows => {
+                let (tail, question) = with_tail(alloc, line)?;
+                answer_by_tail(&tail, &question, writer)
+            }
+            Section::RowsInBatches => {
+                let (batches, question) = with_batches(alloc, line)?;
+                answer_by_batches(&batches, &question, writer)
+            }
             Section::Script(script) => Ok(script.extend_from_slice(line)?),
         }
     }

@@ -2,6 +2,7 @@
 use crate::agreeing::agree;
 use crate::bounded::tail;
 use crate::building::{meets, misses, row, table};
+use batches::Batches;
 use bounds::ExactSteps;
 use brackets::response_time;
 use findings::find;
@@ -62,6 +63,24 @@ fn frame_at_the_horizon(rt: HostRuntime) -> Result<(), Fail> {
         found,
         [Ok(meets(2, 1)), Ok(meets(3, 1)), Ok(meets(2, 1))],
     );
+    Ok(())
+}
+
+// At 10 the exact demand of 5 + 5 is served, and by the tail of accuracy 1 the demand is 6 and half an
+// instant: it is served at 12, far before the next test point, which is the window. In batches of 4 the
+// jobs at 10 count as 8, so the row rests at 13, past the corners 2, 4 and so on up to 12.
+#[test]
+fn rests_between_exact_steps_and_the_window(rt: HostRuntime) -> Result<(), Fail> {
+    let above = table(40, &[row(1, 2, 2, 0)])?;
+    let below = row(5, 40, 40, 0);
+    let fours = Batches::new(1, 4).expect(&rt, "batches of 4 are refused");
+    let found = [
+        find(&ExactSteps, &below, &above),
+        find(&tail(&rt, 1), &below, &above),
+        find(&fours, &below, &above),
+    ];
+    let wanted = [Ok(meets(10, 5)), Ok(meets(12, 1)), Ok(meets(13, 7))];
+    agree(&rt, found, wanted);
     Ok(())
 }
 
