@@ -10,11 +10,11 @@ their answers are the finding by that bound, and both findings with the gap betw
 
     FINDING, FINDING FINDING GAP
 
-Most rows stand below others that leave little time, so that the exact demand is served late, and by a bound later still.
-Of others the points are very many, or very few in a very long window, or the first rest or a test point stands where a
-round number of instants ends. Which of them are stored is chosen by leaps.py, a model of the library's search, so that
-each part of it is gone through often, for each accuracy; what is answered is counted by pieces.py and counts.py alone. With
---sorts the script prints how many questions of each sort there are.
+Most rows stand below others that leave little time, so that the exact demand is served late, and by a bound later
+still. Of others the points are very many, or very few in a very long window, or the first rest or a test point stands
+where a round number of instants ends. Which of the first sort are stored is chosen by leaps.py, a model of the search
+of the library, so that each part of it is gone through often, for each accuracy; what is answered is counted by
+pieces.py and counts.py alone. With --sorts the script prints how many questions of each sort there are.
 
 The same lines come each time.
 """
@@ -130,11 +130,15 @@ def with_window(frame, bound, row, above, begin):
     return None if length < work else (frame, (work, length + jitter, period, jitter), above)
 
 
-def sorts_of(frame, bound, row, above, wide):
-    """Of what sorts a question is, which holds only where it does wherever the search begins: at the first instant, or
-    where a line below the demand is served.
+def walks_of(frame, bound, row, above):
+    """What a search goes through that begins at the first instant, and one that begins where a line below the demand is
+    served.
     """
-    walks = [walk(frame, bound, row, above, begin) for begin in (1, line_served(row, above) or 1)]
+    return [walk(frame, bound, row, above, begin) for begin in (1, line_served(row, above) or 1)]
+
+
+def sorts_of(walks, row, wide):
+    """Of what sorts a question is: those of which it is wherever the search begins."""
     least = min(walked.past for walked in walks)
     halved = all(walked.gap >= wide for walked in walks)
     inside = halved and all(walked.to < window(row) for walked in walks)
@@ -151,8 +155,10 @@ def late_rows(cases, bound_by_chance, wanted, wide):
         if made is None:
             continue
         frame, row, above = made
-        sorts = [sort for sort in sorts_of(frame, bound, row, above, wide) if sort in wanted]
+        walks = walks_of(frame, bound, row, above)
+        sorts = [sort for sort in sorts_of(walks, row, wide) if sort in wanted]
         if any(found[sort] < wanted[sort] for sort in sorts):
+            assert {walked.rest for walked in walks} == {finding(frame, bound, row, above)[0]}
             add(cases, frame, told, above + (row,))
             for sort in sorts:
                 found[sort] += 1
