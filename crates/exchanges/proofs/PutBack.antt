@@ -1,12 +1,12 @@
 -- A row that is dismissed can be admitted back at its rank, and then the bench is as it was.
-use Rattle.std.proofs.Common.{◌≡◌, ℕ, suc, ◌+◌, ◌-◌, ◌≤◌, true, false, not, leb, List, ◌∷◌, ◌++◌, length, get_or, take}
+use Rattle.std.proofs.Common.{◌≡◌, ℕ, suc, ◌+◌, ◌-◌, ◌≤◌, true, false, not, leb, List, [], ◌∷◌, ◌++◌, length, get_or, take}
 use Rattle.std.proofs.Common.{drop, Some, None, Option, Ok, Err, Result, refl, sym, ap, ◌∙◌, subst, ap₂, arith}
 use Rattle.std.proofs.Common.{position, OnErr}
 use Rattle.std.specs.List.{AllPass, insert}
-use Rattle.std.specs.Option.{option_map, unwrap_or}
+use Rattle.std.specs.Option.{option_map}
 use Rattle.std.specs.Result.{IsOk, is_err}
 use Rattle.std.proofs.lemmas.Bool.{le-ltb, ne_eqb, and_from, le-leb}
-use Rattle.std.proofs.lemmas.List.{drop_at, get_or_at, take_at, length-append, length-drop, length-take-le}
+use Rattle.std.proofs.lemmas.List.{append_assoc, drop_at, get_or_at, take_at, length-append, length-drop, length-take-le}
 use Rattle.std.proofs.lemmas.List.Elements.{All-weaker}
 use Rattle.rows.specs.declared.frames.FrameNumbers.{FrameNumbers}
 use Rattle.rows.specs.declared.judging.Flaw.TheVariants.{Idle, Cramped, Late, Long, Off}
@@ -19,25 +19,22 @@ use Rattle.rows.specs.Answers.{Answer, gives, refuses, refuses_at, Check, checke
 use Rattle.rows.specs.Books.{Book, IsJudged, book}
 use Rattle.rows.specs.Counting.{is_on_frame}
 use Rattle.rows.specs.Judging.{plain, has_flaw, frame_flaws, flaw_checks}
-use Rattle.rows.specs.Lists.{at_rank, first_of}
 use Rattle.rows.specs.Ranks.{is_rank}
 use Rattle.rows.specs.Times.{horizon}
-use Rattle.rows.proofs.Checks.{first_passes, given_is, gives_any, passes_on, places_pass_on, refuses_any}
-use Rattle.rows.proofs.Ranked.{rank_within}
-use Rattle.rows.proofs.SameRow.{same_row}
+use Rattle.rows.proofs.Checks.{gives_any, passes_on, places_pass_on, refuses_any}
 use Rattle.bounds.specs.Meaning.{Meaning}
 use Rattle.rows.specs.Found.{Found, tells, is_met, is_miss}
 use Rattle.rows.specs.declared.verdicts.Finding.{Finding}
-use Rattle.findings.specs.Findings.{row_finding}
 use Rattle.findings.specs.Tables.{findings_of}
 use Rattle.admission.specs.declared.calls.Call.TheVariants.{Admit, Dismiss, Inquire}
 use Rattle.admission.specs.declared.calls.Reply.{Reply}
 use Rattle.admission.specs.declared.calls.Reply.TheVariants.{Found as FoundRow}
 use Rattle.admission.specs.Benches.{Held, bench, Does}
+use Rattle.admission.specs.Promises.{StandsAndMeets}
 use Rattle.admission.specs.Books.{checks_of, step, told, without}
-use Rattle.admission.specs.Replies.{Told, answer_of, as_done, done, row_found}
+use Rattle.admission.specs.Replies.{Told, answer_of, as_done, done}
 use Rattle.admission.proofs.Called.{admits, newcomer_is}
-use Rattle.admission.proofs.Steps.{parts_at, step_answers, step_given, step_refused}
+use Rattle.admission.proofs.Steps.{step_answers, step_given, step_refused}
 use Rattle.exchanges.specs.Exchanged.{exchange_checks}
 
 -- to inquire leaves the book
@@ -54,44 +51,25 @@ pub kept_is : {B : Type 0} (m : Meaning) (rank : ℕ) (now : Held B) (reply : Re
     → now ≡ bench m now.bound now.book
 kept_is m rank now reply does = does.becomes ∙ ap (bench m now.bound) (inquire_leaves m now.book rank)
 
--- the row that stands at a rank
-at_there : (rank : ℕ) (rows xs ys : List Row) (x : Row) → 1 ≤ rank → length xs ≡ rank - 1 → rows ≡ xs ++ x ∷ ys
-    → at_rank rank rows ≡ Some x
-at_there rank rows xs ys x low place split =
-    let up : suc (rank - 1) ≡ rank = omega arith in
-    subst (λ n. at_rank n rows ≡ Some x) up
-    (ap (λ rs. first_of (drop (rank - 1) rs)) split ∙ ap first_of (drop_at xs (x ∷ ys) (rank - 1) place))
-
--- the row that is told of a rank stands there, between those before and after it
+-- a row stands at a rank, between those before and after it
 pub record StandsAt (rank : ℕ) (rows : List Row) (r : Row) : Type 0 where
   pub low : 1 ≤ rank
   pub high : rank ≤ length rows
   pub split : rows ≡ take (rank - 1) rows ++ r ∷ drop rank rows
 
-pub told_stands : {B : Type 0} (m : Meaning) (rank : ℕ) (now : Held B) (r : Row) (f : Finding)
-    → Does m (Inquire rank) now now (FoundRow r f) → StandsAt rank now.book.rows r
-told_stands m rank now r f does =
-    let b = now.book in
-    let cs = checks_of m b (Inquire rank) in
-    let given : gives (row_found (plain r) (tells f)) ≡ checked cs (told m b (Inquire rank)) =
-    does.replies ∙ step_answers m b (Inquire rank) in
-    let within = rank_within (length b.rows) rank
-    (first_passes (not (is_rank (length b.rows) rank)) NoRank 0 (row_found (plain r) (tells f))
-    (gives (told m b (Inquire rank))) given).0 in
-    let parts = parts_at rank b.rows within.0 within.1 in
-    let there = at_there rank b.rows (take (rank - 1) b.rows) (drop rank b.rows) parts.0 within.0
-    (length-take-le (rank - 1) b.rows (omega (arith, within.1))) parts.1 in
-    let about = row_finding m b.frame parts.0 (take (rank - 1) b.rows) in
-    let tells_so : row_found (plain r) (tells f) ≡ row_found (plain parts.0) about =
-    given_is cs (row_found (plain r) (tells f)) (told m b (Inquire rank)) given
-    ∙ ap (λ o. unwrap_or
-    (option_map (λ s. row_found (plain s) (row_finding m b.frame s (take (rank - 1) b.rows))) o) done) there in
-    let numbers : plain r ≡ plain parts.0 = cc in
+-- so stands a row that is told with those before it, one less than its rank, and those after it
+stands_at : (rank : ℕ) (rows above below : List Row) (r : Row) → rows ≡ above ++ r ∷ below → rank ≡ length above + 1
+    → StandsAt rank rows r
+stands_at rank rows above below r split place =
+    let one : length (above ++ r ∷ []) ≡ rank = length-append above (r ∷ []) ∙ sym place in
+    let front = ap (take (rank - 1)) split ∙ take_at above (r ∷ below) (rank - 1) (omega (arith, place)) in
+    let back = ap (drop rank) (split ∙ sym (append_assoc above (r ∷ []) below))
+    ∙ drop_at (above ++ r ∷ []) below rank one in
+    let count : length (r ∷ below) ≡ suc (length below) = refl in
     record {
-      low = within.0;
-      high = within.1;
-      split = subst (λ s. b.rows ≡ take (rank - 1) b.rows ++ s ∷ drop rank b.rows)
-          (sym (same_row r parts.0 numbers)) parts.1;
+      low = omega (arith, place);
+      high = omega (arith, place, ap length split, length-append above (r ∷ below), count);
+      split = split ∙ sym (ap₂ (λ xs ys. xs ++ r ∷ ys) front back);
     }
 
 -- a row on a frame has no flaw
@@ -186,9 +164,10 @@ done_ok (Err fault) is = cc
 -- a bench that was asked for a row, and from which the row has then been dismissed, by a bound of any meaning
 module _ {B : Type 0} (meaning : B → Meaning) (old alone : Held B) (rank : ℕ) (r : Row) (f : Finding)
     (asked : Does (meaning old.bound) (Inquire rank) old old (FoundRow r f))
+    (told : StandsAndMeets (meaning old.bound) old.book rank r (tells f))
     (reply : Reply) (dismisses : Does (meaning old.bound) (Dismiss rank) old alone reply) where
   there : StandsAt rank old.book.rows r
-  there = told_stands (meaning old.bound) rank old r f asked
+  there = stands_at rank old.book.rows told.above told.below r told.table told.place
 
   alone_is : alone ≡ bench (meaning old.bound) old.bound (without_it rank old.book)
   alone_is = dismisses.becomes
