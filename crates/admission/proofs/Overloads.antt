@@ -1,6 +1,6 @@
 -- What a refusal for overload names.
-use Rattle.std.proofs.Common.{◌≡◌, ◌≢◌, ℕ, suc, ◌+◌, ◌-◌, ◌<◌, true, List, [], ◌∷◌, ◌++◌, length, take, drop, get_or, Some}
-use Rattle.std.proofs.Common.{None, Option, sym, refl, ap, ◌∙◌, subst, arith, position}
+use Rattle.std.proofs.Common.{◌≡◌, ◌≢◌, ℕ, suc, ◌+◌, ◌-◌, ◌<◌, true, List, [], ◌∷◌, ◌++◌, length, take, drop, get_or}
+use Rattle.std.proofs.Common.{Some, None, Option, sym, refl, ap, ◌∙◌, subst, arith, position}
 use Rattle.std.specs.Option.{option_map}
 use Rattle.std.specs.List.{AllPass, list_all}
 use Rattle.std.proofs.lemmas.Bool.{not-false}
@@ -107,10 +107,12 @@ pub no_overload : (m : Meaning) (b : Book) (c : Call) (a : Answer Told)
     → (at : ℕ) → a ≢ refuses Overload at
 no_overload m b c a others answered = λ at is. let end =
     (left_to (checks_of m b c) [] (refuses Overload at) (told m b c) others
-    (sym is ∙ answered ∙ step_answers m b c ∙ ap (λ cs. checked cs (told m b c)) (sym (append-nil (checks_of m b c))))).1
+    (sym is ∙ answered ∙ step_answers m b c
+    ∙ ap (λ cs. checked cs (told m b c)) (sym (append-nil (checks_of m b c))))).1
     in cc
 
--- where a book stands on its frame, an answer that refuses a call for overload is that to an admit, and names such a row
+-- where a book stands on its frame, an answer that refuses a call for overload is that to an admit, and names such a
+-- row
 pub overload_misses : (m : Meaning) → Laws m → (b : Book) → StandOn b.frame.ticks b.rows → (c : Call) (a : Answer Told)
     → a ≡ (step m b c).1 → OverloadMisses m b c a
 overload_misses m laws b stand (Admit rank n) a answered = λ at is.
@@ -123,8 +125,8 @@ overload_misses m laws b stand (Dismiss rank) a answered = no_overload m b (Dism
 overload_misses m laws b stand (Inquire rank) a answered = no_overload m b (Inquire rank) a refl answered
 
 -- so does the reply of a call that does what the book says
-pub overload_named : {B : Type 0} {m : Meaning} {c : Call} {old new : Held B} {reply : Reply} → Laws m → Sound m old.book
-    → Does m c old new reply → OverloadMisses m old.book c (answer_of reply)
+pub overload_named : {B : Type 0} {m : Meaning} {c : Call} {old new : Held B} {reply : Reply} → Laws m
+    → Sound m old.book → Does m c old new reply → OverloadMisses m old.book c (answer_of reply)
 overload_named {B} {m} {c} {old} {new} {reply} laws sound does =
     overload_misses m laws old.book sound.stand c (answer_of reply) does.replies
 

@@ -111,7 +111,8 @@ impl<B: Bound> Bench<B> {
     /// Refused, each at 0 but the last, with 4, idle row, 5, no window, 6, late deadline, 7, long
     /// period; 8, off frame; 9, full table, while 32 rows stand; 10, no rank, outside 1 to one past
     /// the last; 11, overload, at the smallest rank whose row would miss with the new row in place
-    /// (docs/REFUSALS.md). A refused call leaves the bench as it was.
+    /// (docs/REFUSALS.md); by a bound of accuracy k that row would miss in exact steps too, at speed
+    /// k / (k + 1). A refused call leaves the bench as it was.
     pub fn admit(&mut self, rank: usize, numbers: Numbers) -> Result<(), Fault>
         ensures does { Does (B.meaning self.old.bound) (Call.Admit rank numbers)
             self.old self.new (as_done result) }

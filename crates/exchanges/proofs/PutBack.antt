@@ -1,12 +1,13 @@
 -- A row that is dismissed can be admitted back at its rank, and then the bench is as it was.
-use Rattle.std.proofs.Common.{◌≡◌, ℕ, suc, ◌+◌, ◌-◌, ◌≤◌, true, false, not, leb, List, [], ◌∷◌, ◌++◌, length, get_or, take}
-use Rattle.std.proofs.Common.{drop, Some, None, Option, Ok, Err, Result, refl, sym, ap, ◌∙◌, subst, ap₂, arith}
+use Rattle.std.proofs.Common.{◌≡◌, ℕ, suc, ◌+◌, ◌-◌, ◌≤◌, true, false, not, leb, List, [], ◌∷◌, ◌++◌, length, get_or}
+use Rattle.std.proofs.Common.{take, drop, Some, None, Option, Ok, Err, Result, refl, sym, ap, ◌∙◌, subst, ap₂, arith}
 use Rattle.std.proofs.Common.{position, OnErr}
 use Rattle.std.specs.List.{AllPass, insert}
 use Rattle.std.specs.Option.{option_map}
 use Rattle.std.specs.Result.{IsOk, is_err}
 use Rattle.std.proofs.lemmas.Bool.{le-ltb, ne_eqb, and_from, le-leb}
-use Rattle.std.proofs.lemmas.List.{append_assoc, drop_at, get_or_at, take_at, length-append, length-drop, length-take-le}
+use Rattle.std.proofs.lemmas.List.{append_assoc, drop_at, get_or_at, take_at, length-append, length-drop}
+use Rattle.std.proofs.lemmas.List.{length-take-le}
 use Rattle.std.proofs.lemmas.List.Elements.{All-weaker}
 use Rattle.rows.specs.declared.frames.FrameNumbers.{FrameNumbers}
 use Rattle.rows.specs.declared.judging.Flaw.TheVariants.{Idle, Cramped, Late, Long, Off}
