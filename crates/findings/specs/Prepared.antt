@@ -1,5 +1,5 @@
 -- What is kept of the rows above while a table is counted.
-use Rattle.std.specs.Prelude.{◌≡◌, ℕ, ◌<◌, false, List, get_or, length, map, replicate, take}
+use Rattle.std.specs.Prelude.{◌≡◌, ℕ, ◌<◌, false, List, [], get_or, length, map, replicate, take}
 use Rattle.rows.specs.declared.tasks.Row.{Row}
 use Rattle.rows.specs.Times.{most_rows}
 use Rattle.bounds.specs.declared.questions.OnFrame.{OnFrame}
@@ -25,3 +25,7 @@ pub record Prepares (m : Meaning) (h : ℕ) (rows : List Row) (p : Prepared) : T
   pub marks : Marks (is_bend m rows) 0 (replicate near false) p.flags
   pub places : length p.nexts ≡ most_rows
   pub ahead : take (length rows) p.nexts ≡ map (next_after m near) rows
+
+-- nothing is kept yet: it is kept of no rows, whatever the bound and the frame
+abbrev pub KeepsNothing : Prepared → Type 0
+KeepsNothing p = (m : Meaning) (h : ℕ) → Prepares m h [] p

@@ -46,6 +46,7 @@ pub fn find<B: Bound>(bound: &B, row: &Row, above: &Table) -> Result<Finding, Fa
     check_question(row, above)?;
     let frame = above.frame();
     let rows = above.rows();
-    let prepared = Prepared::of(bound, frame, rows);
+    let mut prepared = Prepared::new();
+    prepared.keep(bound, frame, rows);
     Ok(Load::new(bound, frame, row.work, rows, &prepared).finding(row.window()))
 }

@@ -28,7 +28,8 @@ impl<'a, B: Bound> Demand<'a, B> {
         ensures window { IfOk result (λ d. lent_window d ≡ window row.now) }
     {
         check_question(row, above)?;
-        let prepared = Prepared::of(bound, above.frame(), above.rows());
+        let mut prepared = Prepared::new();
+        prepared.keep(bound, above.frame(), above.rows());
         Ok(Demand {
             bound,
             row,

@@ -1,10 +1,9 @@
 // What is kept of the rows above while a table is counted: made once for each row, and lent to the
 // search of every row below it.
-ghost use Rattle.std.specs.Prelude.{ℕ, ◌+◌, ◌<◌, [], length, take};
+ghost use Rattle.std.specs.Prelude.{◌+◌, ◌<◌, length, take};
 ghost use Rattle.rows.specs.Times.{most_rows};
-ghost use Rattle.bounds.specs.Meaning.{Meaning};
 ghost use Rattle.findings.specs.Countable.{CanBeCounted};
-ghost use Rattle.findings.specs.Prepared.{Prepares};
+ghost use Rattle.findings.specs.Prepared.{KeepsNothing, Prepares};
 
 use crate::lines::Line;
 use bounds::{Bound, OnFrame};
@@ -25,8 +24,8 @@ pub(crate) struct Prepared {
 
 impl Prepared {
     // What is kept of no row.
-    fn new() -> Prepared
-        ensures { (m : Meaning) (h : ℕ) → Prepares m h [] result }
+    pub(crate) fn new() -> Prepared
+        ensures { KeepsNothing result }
     {
         Prepared {
             rows: [OnFrame::default(); MOST_ROWS],
@@ -51,15 +50,14 @@ impl Prepared {
         self.nexts[place] = next.unwrap_or(HORIZON + 1);
     }
 
-    // What is kept of rows.
-    pub(crate) fn of<B: Bound>(bound: &B, frame: &Frame, rows: &[Row]) -> Prepared
-        requires { CanBeCounted most_rows frame.now.ticks rows.now }
-        ensures { Prepares (B.meaning bound.now) frame.now.ticks rows.now result }
+    // Keeps rows, where none is kept yet.
+    pub(crate) fn keep<B: Bound>(&mut self, bound: &B, frame: &Frame, rows: &[Row])
+        requires countable { CanBeCounted most_rows frame.now.ticks rows.now }
+        requires none { KeepsNothing self.old }
+        ensures { Prepares (B.meaning bound.now) frame.now.ticks rows.now self.new }
     {
-        let mut prepared = Prepared::new();
         for place in 0..rows.len() {
-            prepared.add(bound, frame, rows, place);
+            self.add(bound, frame, rows, place);
         }
-        prepared
     }
 }

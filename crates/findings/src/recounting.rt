@@ -23,7 +23,8 @@ fn fill<B: Bound>(bound: &B, frame: &Frame, rows: &[Row], from: usize, list: &mu
         (drop from (findings_of (B.meaning bound.now) frame.now rows.now)) }
     ensures stay { StaysOutside from (length rows.now) list.old list.new }
 {
-    let mut prepared = Prepared::of(bound, frame, &rows[..from.min(rows.len())]);
+    let mut prepared = Prepared::new();
+    prepared.keep(bound, frame, &rows[..from.min(rows.len())]);
     let mut late = 0;
     for i in from..rows.len() {
         let row = &rows[i];

@@ -31,7 +31,7 @@ loop-i-init g c =
       put = let e : 0 ≡ from - from = omega arith in
           paste_none (map tells c.args.list.now) from new ∙ ap (paste (map tells c.args.list.now) from new) e;
       stay = λ k d outside. refl;
-      kept = subst (λ rs. Prepares m c.args.frame.now.ticks rs c.of-prepared.result) first c.of-prepared.ensures;
+      kept = subst (λ rs. Prepares m c.args.frame.now.ticks rs c.keep.new.self) first c.keep.ensures;
       near = omega arith;
       late = λ w busy. late_start m c.args.frame.now.ticks (take from rows) w;
     }
