@@ -3,16 +3,6 @@
 ghost use Rattle.std.specs.Prelude.{◌≡◌, ◌≢◌, ℕ, ◌+◌, ◌<◌, ◌≤◌, length, slice_index_or};
 ghost use Rattle.findings.specs.Trees.{IsTree, LeavesUnder};
 
-// Puts at a node the lesser of what stands below it.
-fn settle(keys: &mut [u32; 64], node: usize)
-    requires inner { node < 32 }
-    requires tree { IsTree keys.old }
-    ensures tree { IsTree keys.new }
-    ensures leaves { (k : ℕ) → 32 ≤ k → slice_index_or keys.new k 0 ≡ slice_index_or keys.old k 0 }
-{
-    keys[node] = keys[2 * node].min(keys[2 * node + 1]);
-}
-
 // Raises a leaf, and what stands above it.
 pub(crate) fn raise(keys: &mut [u32; 64], leaf: usize, key: u32)
     requires outer { 32 ≤ leaf }
@@ -42,14 +32,12 @@ pub(crate) fn planted(nexts: &[u32]) -> [u32; 64]
     ensures leaves { LeavesUnder nexts.now result }
 {
     let mut keys = [0; 64];
-    for i in 0..nexts.len() {
-        keys[32 + i] = nexts[i] * 32 + i as u32;
-    }
-    for i in nexts.len()..32 {
-        keys[32 + i] = u32::MAX;
-    }
-    for i in 1..32 {
-        settle(&mut keys, 32 - i);
+    for place in 0..32 {
+        let key = match nexts.get(place) {
+            Some(next) => next * 32 + place as u32,
+            None => u32::MAX,
+        };
+        raise(&mut keys, 32 + place, key);
     }
     keys
 }
