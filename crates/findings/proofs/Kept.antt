@@ -1,13 +1,11 @@
 -- What is kept of the rows of a table, one row more at a time.
 use Rattle.std.proofs.Common.{◌≡◌, ◌≢◌, ℕ, ◌+◌, ◌<◌, ◌≤◌, Bool, true, false, List, [], ◌∷◌, ◌++◌, get_or}
-use Rattle.std.proofs.Common.{slice_index_or, set}
-use Rattle.std.proofs.Common.{length, map, take, take_all, replicate, ◌||◌, sym, refl, ap, ap₂, ◌∙◌, inl, inr}
-use Rattle.std.proofs.Common.{⊎_elim, arith}
+use Rattle.std.proofs.Common.{slice_index_or, set, length, map, take, take_all, replicate, ◌||◌, sym, refl, ap, ap₂}
+use Rattle.std.proofs.Common.{◌∙◌, inl, inr, ⊎_elim, arith}
 use Rattle.std.proofs.lemmas.Bool.{cases_order}
 use Rattle.std.proofs.lemmas.Grind.{get_or-set_at, take_at_read}
 use Rattle.std.proofs.lemmas.List.{get_or-map, get_or-replicate, get_or-set_other, get_or-take, get_or_default}
-use Rattle.std.proofs.lemmas.List.{length-map}
-use Rattle.std.proofs.lemmas.List.{length-replicate, length-set, length-take-le, map-append, take-set-le}
+use Rattle.std.proofs.lemmas.List.{length-map, length-replicate, length-set, length-take-le, map-append, take-set-le}
 use Rattle.rows.specs.declared.tasks.Row.{Row}
 use Rattle.rows.specs.Times.{horizon, most_rows}
 use Rattle.bounds.specs.declared.questions.OnFrame.{OnFrame}

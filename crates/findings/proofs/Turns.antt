@@ -196,3 +196,13 @@ leaves_raised keys new nexts p x leaves small room there others k within = elim 
         leaves k (omega (arith, size)),
       )
 ]
+
+-- what is put at the place whose turn it is: its next corner, later than its turn, and at most one past the horizon
+pub put_turn : (l : Load) (nexts : List ℕ) (p at x : ℕ) (d : Row) → length nexts ≡ length l.above → at ≤ horizon
+    → (nat_lt p (length nexts) && slice_index_or nexts p 0 == at) ≡ true
+    → x ≡ next_after l.bound at (get_or l.above p d)
+    → (p < length nexts) × (slice_index_or (slice_set nexts p x) p 0 ≡ x) × (at < x) × (x ≤ horizon + 1)
+put_turn l nexts p at x d size near here is =
+    let turn = turn_at nexts p at here in
+    let next = next_turn l at p x d near (omega (arith, size, turn.0)) is in
+    (turn.0, get_or-set_at nexts p p x 0 refl turn.0, next.0, next.1.high)

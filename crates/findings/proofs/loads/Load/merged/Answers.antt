@@ -9,7 +9,7 @@ use Rattle.bounds.specs.Lemmas.Instants.{count_le}
 use Rattle.findings.specs.Counting.{near, is_corner_above, next_after}
 use Rattle.findings.specs.Loads.{load_of}
 use Rattle.findings.proofs.Kept.{told_ahead}
-use Rattle.findings.proofs.Turns.{turns_start, next_turn, counted_before, counted_there, turns_on, root_least, turn_at}
+use Rattle.findings.proofs.Turns.{turns_start, put_turn, counted_before, counted_there, turns_on, root_least, turn_at}
 use Rattle.findings.proofs.Turns.{leaves_raised}
 use Rattle.findings.proofs.loads.Load.merged.Goals as goal
 
@@ -55,42 +55,26 @@ one_more-corners-requires g c = omega (
 
 pub overflow_mul-nexts : goal.overflow_mul-nexts
 overflow_mul-nexts g c =
-    let l = load_of c.args.self.now in
-    let known = c.loop.invariant in
-    let place = slice_index_or c.loop.keys 1 0 % 32 in
-    let at = slice_index_or c.loop.keys 1 0 / 32 in
-    let turn = turn_at c.loop.nexts place at (sym c.if-not-is_turn.ensures) in
-    let next = next_turn l at place c.unwrap_or.result c.index-self-place.result
-    (omega (arith, c.if-at-end.false, c.requires.near)) (omega (arith, known.size, turn.0))
-    (c.unwrap_or.ensures ∙ ap (λ o. unwrap_or o (horizon + 1)) c.corner_after-next.ensures) in
-    let there = get_or-set_at c.loop.nexts place place c.unwrap_or.result 0 refl turn.0 in
-    record { fits = omega (arith, there, next.1.high) }
+    let told = c.unwrap_or.ensures ∙ ap (λ o. unwrap_or o (horizon + 1)) c.corner_after-next.ensures in
+    let put = put_turn (load_of c.args.self.now) c.loop.nexts _ _ c.unwrap_or.result c.index-self-place.result
+    c.loop.invariant.size (omega (arith, c.if-at-end.false, c.requires.near)) (sym c.if-not-is_turn.ensures) told in
+    record { fits = omega (arith, put.1, put.3) }
 
 pub overflow_add-nexts : goal.overflow_add-nexts
 overflow_add-nexts g c =
-    let l = load_of c.args.self.now in
-    let known = c.loop.invariant in
-    let place = slice_index_or c.loop.keys 1 0 % 32 in
-    let at = slice_index_or c.loop.keys 1 0 / 32 in
-    let turn = turn_at c.loop.nexts place at (sym c.if-not-is_turn.ensures) in
-    let next = next_turn l at place c.unwrap_or.result c.index-self-place.result
-    (omega (arith, c.if-at-end.false, c.requires.near)) (omega (arith, known.size, turn.0))
-    (c.unwrap_or.ensures ∙ ap (λ o. unwrap_or o (horizon + 1)) c.corner_after-next.ensures) in
-    let there = get_or-set_at c.loop.nexts place place c.unwrap_or.result 0 refl turn.0 in
-    record { fits = omega (arith, there, next.1.high, mod_below (slice_index_or c.loop.keys 1 0) 32 (omega arith)) }
+    let told = c.unwrap_or.ensures ∙ ap (λ o. unwrap_or o (horizon + 1)) c.corner_after-next.ensures in
+    let put = put_turn (load_of c.args.self.now) c.loop.nexts _ _ c.unwrap_or.result c.index-self-place.result
+    c.loop.invariant.size (omega (arith, c.if-at-end.false, c.requires.near)) (sym c.if-not-is_turn.ensures) told in
+    record { fits = omega (arith, put.1, put.3, mod_below (slice_index_or c.loop.keys 1 0) 32 (omega arith)) }
 
 pub raise-requires-clause-more : goal.raise-requires-clause-more
 raise-requires-clause-more g c =
-    let l = load_of c.args.self.now in
-    let known = c.loop.invariant in
     let place = slice_index_or c.loop.keys 1 0 % 32 in
-    let at = slice_index_or c.loop.keys 1 0 / 32 in
-    let turn = turn_at c.loop.nexts place at (sym c.if-not-is_turn.ensures) in
-    let next = next_turn l at place c.unwrap_or.result c.index-self-place.result
-    (omega (arith, c.if-at-end.false, c.requires.near)) (omega (arith, known.size, turn.0))
-    (c.unwrap_or.ensures ∙ ap (λ o. unwrap_or o (horizon + 1)) c.corner_after-next.ensures) in
-    let there = get_or-set_at c.loop.nexts place place c.unwrap_or.result 0 refl turn.0 in
-    omega (arith, there, next.0, known.leaves place turn.0, turn.1)
+    let told = c.unwrap_or.ensures ∙ ap (λ o. unwrap_or o (horizon + 1)) c.corner_after-next.ensures in
+    let put = put_turn (load_of c.args.self.now) c.loop.nexts place _ c.unwrap_or.result c.index-self-place.result
+    c.loop.invariant.size (omega (arith, c.if-at-end.false, c.requires.near)) (sym c.if-not-is_turn.ensures) told in
+    let turn = turn_at c.loop.nexts place _ (sym c.if-not-is_turn.ensures) in
+    omega (arith, put.1, put.2, c.loop.invariant.leaves place put.0, turn.1)
 
 pub loop-preserved : goal.loop-preserved
 loop-preserved g c =
