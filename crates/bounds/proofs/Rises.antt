@@ -1,5 +1,5 @@
 -- The next rise of a row's steps.
-use Rattle.std.proofs.Common.{◌≡◌, true, ◌+◌, ◌-◌, ◌*◌, ◌/◌, ℕ, arith}
+use Rattle.std.proofs.Common.{◌≡◌, true, ◌+◌, ◌-◌, ◌*◌, ◌/◌, ◌<◌, ℕ, arith}
 use Rattle.std.proofs.lemmas.Nat.{div-add-mod', mod_below}
 use Rattle.rows.specs.declared.tasks.Row.{Row}
 use Rattle.rows.specs.Counting.{is_rise}
@@ -30,4 +30,15 @@ period_later r t u rise later =
       within = omega arith;
       holds = multiple_rises r u (b + 1) (omega arith) (omega arith);
       none = λ i from to. no_rise r i b (omega arith) (omega arith);
+    }
+
+-- where the first period is not over at s, the first rise after it is that period's
+pub earliest_rise : (r : Row) (s : ℕ) → s + r.jitter < r.period
+    → IsFirst (is_rise r) s (s + r.period) (r.period - r.jitter)
+earliest_rise r s early =
+    record {
+      after = omega arith;
+      within = omega arith;
+      holds = multiple_rises r (r.period - r.jitter) 1 (omega arith) (omega arith);
+      none = λ i from to. no_rise r i 0 (omega arith) (omega arith);
     }

@@ -1,6 +1,6 @@
 // Questions to which a bound has something to answer, as values that only a check makes.
 ghost use Rattle.std.specs.Prelude.{IsTrue, ◌≡◌, ◌/◌, ◌<◌, ◌^◌};
-ghost use Rattle.rows.specs.Counting.{steps};
+ghost use Rattle.rows.specs.Counting.{is_on_frame, steps};
 ghost use Rattle.bounds.specs.Meaning.{can_be_asked, is_asked};
 ghost use Rattle.bounds.specs.Ratios.{ratio_of};
 
@@ -122,6 +122,15 @@ fn quotient(x: u32, row: &Row, ratio: u32) -> u32
     }
 }
 
+// Whether the period of a row whose ratio is known divides a number.
+fn goes_into(x: u32, row: &Row, ratio: u32) -> bool
+    requires known { ratio ≡ ratio_of row.now }
+    requires room { x < 2 ^ 31 }
+    ensures { result ≡ is_on_frame x row.now }
+{
+    quotient(x, row, ratio) * row.period == x
+}
+
 impl OnFrame {
     ghost use Rattle.std.specs.Prelude.{false, MatchOption, ◌≡◌, ◌<◌};
     ghost use Rattle.rows.specs.Times.{horizon};
@@ -133,13 +142,14 @@ impl OnFrame {
         ensures { MatchOption result (can_be_asked frame row.now ≡ false)
             (λ s. (frame_under s ≡ frame) × (row_on s ≡ row.now)) }
     {
-        if !can_be_asked(frame, row) {
+        let ratio = u32::MAX / row.period;
+        if !is_frame(frame) || !goes_into(frame, row, ratio) {
             return None;
         }
         Some(OnFrame {
             frame,
             row: *row,
-            ratio: u32::MAX / row.period,
+            ratio,
         })
     }
 

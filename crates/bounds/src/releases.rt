@@ -13,11 +13,14 @@ fn next_rise(row: &Row, after: u32) -> u32
     requires { after ≤ horizon }
     ensures { IsFirst (is_rise row.now) after (after + row.now.period) result }
 {
+    if after + row.jitter < row.period {
+        return row.period - row.jitter;
+    }
     ((after + row.jitter) / row.period + 1) * row.period - row.jitter
 }
 
 // Sets the flags of the rises up to `last` among the instants just after `after`, where flag k
-// stands for after + 1 + k, and answers the first rise past these instants, up to `last`. One
+// stands for after + 1 + k, and answers the first rise past these instants, up to `last`. At most one
 // division finds the first rise; from there on every period has one.
 pub(crate) fn mark_rises(row: &Row, after: u32, last: u32, marks: &mut [bool]) -> Option<u32>
     requires { last ≤ horizon }

@@ -19,6 +19,7 @@ use Rattle.bounds.specs.declared.supplied.Supplied.{Supplied}
 use Rattle.bounds.specs.declared.supplied.Supplied.TheVariants.{ExactSteps as exact, LinearTail as tail}
 use Rattle.bounds.specs.Meaning.{finest, is_accuracy}
 use Rattle.leaves.specs.declared.entries.Heading.{Heading}
+use Rattle.bounds.specs.Values.{accuracy_of}
 use Rattle.bounds.specs.Families.{bound_numbers, named_checks}
 use Rattle.leaves.specs.Headings.{told_at, bound_checks, heading_plain, heading_checks}
 
@@ -45,8 +46,9 @@ heading_passes h at =
     fine : (b : Supplied) → first_refusal (named_checks (bound_numbers b).0 (bound_numbers b).1) ≡ gives tt
     fine exact = refl
     fine (tail t) =
-        passes_on (not (is_accuracy t.accuracy)) BadAccuracy 0 _
-        (not_from_true _ (and_from _ _ (le-leb 1 t.accuracy t.low) (le-leb t.accuracy finest t.high)))
+        let k = accuracy_of t in
+        passes_on (not (is_accuracy k)) BadAccuracy 0 _
+        (not_from_true _ (and_from _ _ (le-leb 1 k t.late.low) (le-leb k finest t.late.high)))
 
     named : (b : Supplied)
         → first_refusal
