@@ -13,10 +13,31 @@ fn next_rise(row: &Row, after: u32) -> u32
     requires { after ≤ horizon }
     ensures { IsFirst (is_rise row.now) after (after + row.now.period) result }
 {
-    if after + row.jitter < row.period {
-        return row.period - row.jitter;
-    }
     ((after + row.jitter) / row.period + 1) * row.period - row.jitter
+}
+
+// The same, with no division where it is the first rise of all.
+fn early_rise(row: &Row, after: u32) -> u32
+    requires { after ≤ horizon }
+    ensures { IsFirst (is_rise row.now) after (after + row.now.period) result }
+{
+    if after + row.jitter < row.period {
+        row.period - row.jitter
+    } else {
+        next_rise(row, after)
+    }
+}
+
+// The first rise after an instant, up to `last`.
+pub(crate) fn rise_after(row: &Row, after: u32, last: u32) -> Option<u32>
+    requires { last ≤ horizon }
+    ensures { result ≡ least (is_rise row.now) (last - after) (after + 1) }
+{
+    if after >= last {
+        return None;
+    }
+    let rise = next_rise(row, after);
+    if rise <= last { Some(rise) } else { None }
 }
 
 // Sets the flags of the rises up to `last` among the instants just after `after`, where flag k
@@ -33,7 +54,7 @@ pub(crate) fn mark_rises(row: &Row, after: u32, last: u32, marks: &mut [bool]) -
     let room = (last - after) as usize;
     let end = marks.len().min(room);
     let period = row.period as usize;
-    let mut place = (next_rise(row, after) - after - 1) as usize;
+    let mut place = (early_rise(row, after) - after - 1) as usize;
     while place < end {
         marks[place] = true;
         place += period;
@@ -43,12 +64,4 @@ pub(crate) fn mark_rises(row: &Row, after: u32, last: u32, marks: &mut [bool]) -
     } else {
         None
     }
-}
-
-// The first rise after an instant, up to `last`.
-pub(crate) fn rise_after(row: &Row, after: u32, last: u32) -> Option<u32>
-    requires { last ≤ horizon }
-    ensures { result ≡ least (is_rise row.now) (last - after) (after + 1) }
-{
-    mark_rises(row, after, last, &mut [])
 }

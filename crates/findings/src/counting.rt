@@ -121,7 +121,9 @@ impl<'a, B: Bound> Load<'a, B> {
         requires ahead { LookAhead (load_of self.now) seen nexts.old }
         ensures { result ≡ count (is_corner_above (load_of self.now)) end }
     {
-        if end as usize <= MIDDLE {
+        if end as usize <= 2 * NEAR {
+            self.blocks(counted, seen, end, nexts, &mut [false; NEAR])
+        } else if end as usize <= MIDDLE {
             self.blocks(counted, seen, end, nexts, &mut [false; MIDDLE])
         } else {
             self.blocks(counted, seen, end, nexts, &mut [false; WIDE])

@@ -24,6 +24,31 @@ pub(crate) fn raise(keys: &mut [u32; 64], leaf: usize, key: u32)
     }
 }
 
+// Keys of which the leaves tell the instants of a list, each with its place, and the others nothing yet.
+fn leaves(nexts: &[u32]) -> [u32; 64]
+    requires few { length nexts.now ≤ 32 }
+    requires near { (k : ℕ) → k < length nexts.now → slice_index_or nexts.now k 0 ≤ 16777217 }
+    ensures zero { (k : ℕ) → k < 32 → slice_index_or result k 0 ≡ 0 }
+    ensures leaves { LeavesUnder nexts.now result }
+{
+    let mut keys = [0; 64];
+    keys[32..].fill(u32::MAX);
+    for (place, next) in nexts.iter().enumerate() {
+        keys[32 + place] = next * 32 + place as u32;
+    }
+    keys
+}
+
+// Puts at a node the lesser of what stands below it.
+fn settle(keys: &mut [u32; 64], node: usize)
+    requires inner { node < 32 }
+    requires tree { IsTree keys.old }
+    ensures tree { IsTree keys.new }
+    ensures leaves { (k : ℕ) → 32 ≤ k → slice_index_or keys.new k 0 ≡ slice_index_or keys.old k 0 }
+{
+    keys[node] = keys[2 * node].min(keys[2 * node + 1]);
+}
+
 // The tree whose leaves tell the instants of a list, each with its place.
 pub(crate) fn planted(nexts: &[u32]) -> [u32; 64]
     requires few { length nexts.now ≤ 32 }
@@ -31,13 +56,9 @@ pub(crate) fn planted(nexts: &[u32]) -> [u32; 64]
     ensures tree { IsTree result }
     ensures leaves { LeavesUnder nexts.now result }
 {
-    let mut keys = [0; 64];
-    for place in 0..32 {
-        let key = match nexts.get(place) {
-            Some(next) => next * 32 + place as u32,
-            None => u32::MAX,
-        };
-        raise(&mut keys, 32 + place, key);
+    let mut keys = leaves(nexts);
+    for node in (1..32).rev() {
+        settle(&mut keys, node);
     }
     keys
 }
