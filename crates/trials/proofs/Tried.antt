@@ -13,7 +13,8 @@ before_next P e t before here early =
 
 module _ (m : Meaning) where
   -- an instant more
-  pub instant_holds : (h : ℕ) (r : Row) (e : ℕ) → HoldBefore m h r e → broken_at m h r e ≡ None → HoldBefore m h r (e + 1)
+  pub instant_holds : (h : ℕ) (r : Row) (e : ℕ) → HoldBefore m h r e → broken_at m h r e ≡ None
+      → HoldBefore m h r (e + 1)
   instant_holds h r e before here t early = before_next (λ i. broken_at m h r i ≡ None) e t before here early
 
   -- a row more

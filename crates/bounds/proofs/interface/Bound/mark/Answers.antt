@@ -1,6 +1,7 @@
 use Rattle.std.proofs.Common.{◌+◌, ◌-◌, length, Some, None, arith}
 use Rattle.rows.specs.Times.{horizon}
-use Rattle.bounds.proofs.Marking.{next_corner_tells, marked_set, marked_all, marked_to, marked_last, up_to_holds, least_past}
+use Rattle.bounds.proofs.Marking.{next_corner_tells, marked_set, marked_all}
+use Rattle.bounds.proofs.Marking.{marked_to, marked_last, up_to_holds, least_past}
 use Rattle.bounds.proofs.Marking.{least_past_none}
 use Rattle.bounds.proofs.interface.Bound.mark.Goals as goal
 
