@@ -3,7 +3,7 @@ ghost use Rattle.bounds.specs.Supplied.{exact_steps};
 ghost use Rattle.bounds.specs.Lemmas.ExactLaws.{exact_laws};
 
 use crate::interface::{Bound, FINEST};
-use crate::questions::Asked;
+use crate::questions::{Asked, OnFrame};
 use crate::releases::{mark_rises, rise_after};
 use rows::{HORIZON, Row};
 
@@ -26,6 +26,10 @@ impl Bound for ExactSteps {
 
     fn mark(&self, row: &Row, after: u32, marks: &mut [bool]) -> Option<u32> {
         mark_rises(row, after, HORIZON, marks)
+    }
+
+    fn corner_past(&self, row: &OnFrame, after: u32) -> Option<u32> {
+        row.rise_after(after, HORIZON)
     }
 
     fn accuracy(&self) -> u32 {

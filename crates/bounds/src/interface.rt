@@ -4,10 +4,10 @@ ghost use Rattle.rows.specs.Times.{horizon};
 ghost use Rattle.bounds.specs.Meaning.{Meaning};
 ghost use Rattle.bounds.specs.Answering.{amount_answered, corner_answered, corner_after};
 ghost use Rattle.bounds.specs.Marks.{Marks, up_to};
-ghost use Rattle.bounds.specs.Questions.{amount_asked};
+ghost use Rattle.bounds.specs.Questions.{amount_asked, row_on};
 ghost use Rattle.bounds.specs.Laws.{Laws};
 
-use crate::questions::Asked;
+use crate::questions::{Asked, OnFrame};
 use rows::Row;
 
 /// The greatest accuracy that a bound can have.
@@ -67,6 +67,14 @@ pub trait Bound {
             seen = at;
         }
         None
+    }
+
+    /// The row's least corner after an instant, up to the horizon, of a row that is known to stand on a
+    /// frame: it may be found with no division.
+    fn corner_past(&self, row: &OnFrame, after: u32) -> Option<u32>
+        ensures { result ≡ corner_after (meaning self.now) (row_on row.now) after }
+    {
+        self.corner_after(row.row(), after)
     }
 
     /// The accuracy k: no amount is more than (k + 1) / k times the exact steps.

@@ -6,6 +6,7 @@ mod families;
 mod interface;
 mod linear;
 mod questions;
+mod ratios;
 mod releases;
 mod supplied;
 mod tails;

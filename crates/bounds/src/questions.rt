@@ -1,9 +1,11 @@
 // Questions to which a bound has something to answer, as values that only a check makes.
-ghost use Rattle.std.specs.Prelude.{IsTrue, ◌≡◌, ◌/◌, ◌<◌, ◌^◌};
-ghost use Rattle.rows.specs.Counting.{is_on_frame, steps};
+ghost use Rattle.std.specs.Prelude.{IsTrue, ◌≡◌};
+ghost use Rattle.rows.specs.Counting.{steps};
 ghost use Rattle.bounds.specs.Meaning.{can_be_asked, is_asked};
 ghost use Rattle.bounds.specs.Ratios.{ratio_of};
 
+use crate::ratios::{goes_into, quotient};
+use crate::releases::rise_after_by;
 use rows::{HORIZON, Row, is_frame};
 
 /// A question: how much a row on a frame can demand up to an instant. There is none but where a bound
@@ -107,33 +109,11 @@ fn can_be_asked(frame: u32, row: &Row) -> bool
     is_frame(frame) && row.divides(frame)
 }
 
-// A number divided by the period of a row whose ratio is known: the product by the ratio is at most
-// one too low.
-fn quotient(x: u32, row: &Row, ratio: u32) -> u32
-    requires known { ratio ≡ ratio_of row.now }
-    requires room { x < 2 ^ 31 }
-    ensures { result ≡ x / row.now.period }
-{
-    let told = (u64::from(x) * u64::from(ratio) / 4_294_967_296) as u32;
-    if x - told * row.period < row.period {
-        told
-    } else {
-        told + 1
-    }
-}
-
-// Whether the period of a row whose ratio is known divides a number.
-fn goes_into(x: u32, row: &Row, ratio: u32) -> bool
-    requires known { ratio ≡ ratio_of row.now }
-    requires room { x < 2 ^ 31 }
-    ensures { result ≡ is_on_frame x row.now }
-{
-    quotient(x, row, ratio) * row.period == x
-}
-
 impl OnFrame {
-    ghost use Rattle.std.specs.Prelude.{false, MatchOption, ◌≡◌, ◌<◌};
+    ghost use Rattle.std.specs.Prelude.{false, MatchOption, ◌≡◌, ◌<◌, ◌≤◌, ◌+◌, ◌-◌};
+    ghost use Rattle.rows.specs.Counting.{is_rise};
     ghost use Rattle.rows.specs.Times.{horizon};
+    ghost use Rattle.bounds.specs.Instants.{least};
     ghost use Rattle.bounds.specs.Questions.{asked_at, asked_frame, asked_row, frame_under, row_on};
 
     /// The row on a frame, in ticks. There is none where the frame is 0 or past the horizon, and where
@@ -169,5 +149,20 @@ impl OnFrame {
             at,
             steps: row.work * jobs,
         })
+    }
+
+    /// The row.
+    pub fn row(&self) -> &Row
+        ensures { result.now ≡ row_on self.now }
+    {
+        &self.row
+    }
+
+    // The first rise of the row after an instant, up to `last`.
+    pub(crate) fn rise_after(&self, after: u32, last: u32) -> Option<u32>
+        requires { last ≤ horizon }
+        ensures { result ≡ least (is_rise (row_on self.now)) (last - after) (after + 1) }
+    {
+        rise_after_by(&self.row, self.ratio, after, last)
     }
 }

@@ -4,7 +4,9 @@ ghost use Rattle.rows.specs.Times.{horizon};
 ghost use Rattle.rows.specs.Counting.{is_rise};
 ghost use Rattle.bounds.specs.Instants.{IsFirst, least};
 ghost use Rattle.bounds.specs.Marks.{Marks, up_to};
+ghost use Rattle.bounds.specs.Ratios.{ratio_of};
 
+use crate::ratios::quotient;
 use rows::Row;
 
 // The first instant after the given one just after which the row's steps rise.
@@ -28,6 +30,16 @@ fn early_rise(row: &Row, after: u32) -> u32
     }
 }
 
+// The same of a row whose ratio is known, with no division.
+#[tactic(auto, using(crate::proofs::Rises::first_rise))]
+fn rise_by(row: &Row, ratio: u32, after: u32) -> u32
+    requires known { ratio ≡ ratio_of row.now }
+    requires near { after ≤ horizon }
+    ensures { IsFirst (is_rise row.now) after (after + row.now.period) result }
+{
+    (quotient(after + row.jitter, row, ratio) + 1) * row.period - row.jitter
+}
+
 // The first rise after an instant, up to `last`.
 pub(crate) fn rise_after(row: &Row, after: u32, last: u32) -> Option<u32>
     requires { last ≤ horizon }
@@ -37,6 +49,19 @@ pub(crate) fn rise_after(row: &Row, after: u32, last: u32) -> Option<u32>
         return None;
     }
     let rise = next_rise(row, after);
+    if rise <= last { Some(rise) } else { None }
+}
+
+// The same of a row whose ratio is known.
+pub(crate) fn rise_after_by(row: &Row, ratio: u32, after: u32, last: u32) -> Option<u32>
+    requires known { ratio ≡ ratio_of row.now }
+    requires near { last ≤ horizon }
+    ensures { result ≡ least (is_rise row.now) (last - after) (after + 1) }
+{
+    if after >= last {
+        return None;
+    }
+    let rise = rise_by(row, ratio, after);
     if rise <= last { Some(rise) } else { None }
 }
 

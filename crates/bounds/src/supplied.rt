@@ -2,7 +2,7 @@
 use crate::exact::ExactSteps;
 use crate::interface::Bound;
 use crate::linear::LinearTail;
-use crate::questions::Asked;
+use crate::questions::{Asked, OnFrame};
 use rows::Row;
 
 /// A bound that the toolkit supplies, as a value: by it a program counts with whichever bound its
@@ -44,6 +44,10 @@ impl Bound for Supplied {
 
     fn mark(&self, row: &Row, after: u32, marks: &mut [bool]) -> Option<u32> {
         ask!(self, bound => bound.mark(row, after, marks))
+    }
+
+    fn corner_past(&self, row: &OnFrame, after: u32) -> Option<u32> {
+        ask!(self, bound => bound.corner_past(row, after))
     }
 
     fn accuracy(&self) -> u32 {

@@ -4,7 +4,7 @@ ghost use Rattle.rows.specs.Times.{horizon};
 ghost use Rattle.bounds.specs.Tails.{LateLaws, Shape, is_exact, late_asked};
 
 use crate::interface::Bound;
-use crate::questions::Asked;
+use crate::questions::{Asked, OnFrame};
 use crate::releases::{mark_rises, rise_after};
 use rows::{HORIZON, Row};
 
@@ -82,6 +82,10 @@ impl<L: Late> Bound for Tail<L> {
 
     fn mark(&self, row: &Row, after: u32, marks: &mut [bool]) -> Option<u32> {
         mark_rises(row, after, self.last_exact(row), marks)
+    }
+
+    fn corner_past(&self, row: &OnFrame, after: u32) -> Option<u32> {
+        row.rise_after(after, self.last_exact(row.row()))
     }
 
     fn accuracy(&self) -> u32 {

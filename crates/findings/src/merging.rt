@@ -1,9 +1,10 @@
 // Far corners counted in turn, where they are few and far between: each row's next one is kept in a
 // tree.
-ghost use Rattle.std.specs.Prelude.{◌≡◌, ◌+◌, ◌<◌, ◌≤◌, length, nat_lt, slice_index_or, ◌&&◌, ◌==◌, if◌then◌else◌};
+ghost use Rattle.std.specs.Prelude.{◌≡◌, ◌+◌, ◌<◌, ◌≤◌, get_or, length, nat_lt, slice_index_or, ◌&&◌, ◌==◌, if◌then◌else◌};
 ghost use Rattle.rows.specs.Times.{horizon};
 ghost use Rattle.bounds.specs.Instants.{count};
-ghost use Rattle.findings.specs.Counting.{is_corner_above, near};
+ghost use Rattle.findings.specs.Counting.{is_corner_above, near, next_after};
+ghost use Rattle.rows.specs.declared.tasks.Row.{Row as TheRow};
 ghost use Rattle.findings.specs.Loads.{load_of};
 
 use crate::loads::Load;
@@ -49,6 +50,16 @@ impl<'a, B: Bound> Load<'a, B> {
         self.by_blocks(counted, seen, end, &mut nexts[..self.above.len()])
     }
 
+    // The next corner of the row at a place above, or one past the horizon where it has none.
+    fn next_of(&self, place: usize, after: u32) -> u32
+        requires { place < length self.now.above.now }
+        ensures { (d : TheRow) → result ≡ next_after (B.meaning self.now.bound.now) after
+            (get_or self.now.above.now place d) }
+    {
+        let next = self.bound.corner_past(&self.prepared.rows[place], after);
+        next.unwrap_or(HORIZON + 1)
+    }
+
     // How many distinct corners the rows above have up to the instant, where those up to the near one
     // are counted: corner by corner, each row's next in its turn. Should the tree tell none whose turn
     // it is, blocks count on.
@@ -74,8 +85,7 @@ impl<'a, B: Bound> Load<'a, B> {
             }
             corners = one_more(corners, seen, at);
             seen = at;
-            let next = self.bound.corner_after(&self.above[place], at);
-            nexts[place] = next.unwrap_or(HORIZON + 1);
+            nexts[place] = self.next_of(place, at);
             raise(&mut keys, 32 + place, nexts[place] * 32 + place as u32);
         }
         self.count_on(corners, seen, end)

@@ -1,4 +1,4 @@
-use Rattle.std.proofs.Common.{ℕ, ◌<◌, ◌≤◌, arith}
+use Rattle.std.proofs.Common.{arith}
 use Rattle.rows.specs.Counting.{is_rise}
 use Rattle.bounds.proofs.Marking.{least_past, least_past_none}
 use Rattle.bounds.proofs.releases.rise_after.Goals as goal

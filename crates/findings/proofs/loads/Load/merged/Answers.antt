@@ -1,17 +1,30 @@
-use Rattle.std.proofs.Common.{◌≡◌, ℕ, ◌<◌, get_or, unwrap_or, refl, ◌+◌, ◌*◌, ◌/◌, ◌%◌, ◌≤◌, slice_index_or, slice_set}
+use Rattle.std.proofs.Common.{◌≡◌, ℕ, ◌<◌, refl, ◌+◌, ◌*◌, ◌/◌, ◌%◌, ◌≤◌, slice_index_or, slice_set}
 use Rattle.std.proofs.Common.{length, take, ap, sym, ◌∙◌, arith}
 use Rattle.std.proofs.lemmas.Grind.{get_or-set_at}
-use Rattle.std.proofs.lemmas.List.{get_or_default, length-set}
+use Rattle.std.proofs.lemmas.List.{length-set}
 use Rattle.rows.specs.declared.tasks.Row.{Row}
 use Rattle.std.proofs.lemmas.Nat.{mod_below}
 use Rattle.rows.specs.Times.{horizon}
 use Rattle.bounds.specs.Lemmas.Instants.{count_le}
-use Rattle.findings.specs.Counting.{near, is_corner_above, next_after}
+use Rattle.findings.specs.Counting.{near, is_corner_above}
 use Rattle.findings.specs.Loads.{load_of}
 use Rattle.findings.proofs.Kept.{told_ahead}
 use Rattle.findings.proofs.Turns.{turns_start, put_turn, counted_before, counted_there, turns_on, root_least, turn_at}
 use Rattle.findings.proofs.Turns.{leaves_raised}
 use Rattle.findings.proofs.loads.Load.merged.Goals as goal
+
+-- what a place of a list holds that no row has been put into
+no_row : Row
+no_row = record {
+  work = 1;
+  deadline = 1;
+  period = 1;
+  jitter = 0;
+  busy = omega arith;
+  roomy = omega arith;
+  timely = omega arith;
+  near = omega arith;
+}
 
 pub planted-keys-requires-clause-near : goal.planted-keys-requires-clause-near
 planted-keys-requires-clause-near g c k small =
@@ -55,23 +68,23 @@ one_more-corners-requires g c = omega (
 
 pub overflow_mul-nexts : goal.overflow_mul-nexts
 overflow_mul-nexts g c =
-    let told = c.unwrap_or.ensures ∙ ap (λ o. unwrap_or o (horizon + 1)) c.corner_after-next.ensures in
-    let put = put_turn (load_of c.args.self.now) c.loop.nexts _ _ c.unwrap_or.result c.index-self-place.result
+    let told = c.next_of.ensures no_row in
+    let put = put_turn (load_of c.args.self.now) c.loop.nexts _ _ c.next_of.result no_row
     c.loop.invariant.size (omega (arith, c.if-at-end.false, c.requires.near)) (sym c.if-not-is_turn.ensures) told in
     record { fits = omega (arith, put.1, put.3) }
 
 pub overflow_add-nexts : goal.overflow_add-nexts
 overflow_add-nexts g c =
-    let told = c.unwrap_or.ensures ∙ ap (λ o. unwrap_or o (horizon + 1)) c.corner_after-next.ensures in
-    let put = put_turn (load_of c.args.self.now) c.loop.nexts _ _ c.unwrap_or.result c.index-self-place.result
+    let told = c.next_of.ensures no_row in
+    let put = put_turn (load_of c.args.self.now) c.loop.nexts _ _ c.next_of.result no_row
     c.loop.invariant.size (omega (arith, c.if-at-end.false, c.requires.near)) (sym c.if-not-is_turn.ensures) told in
     record { fits = omega (arith, put.1, put.3, mod_below (slice_index_or c.loop.keys 1 0) 32 (omega arith)) }
 
 pub raise-requires-clause-more : goal.raise-requires-clause-more
 raise-requires-clause-more g c =
     let place = slice_index_or c.loop.keys 1 0 % 32 in
-    let told = c.unwrap_or.ensures ∙ ap (λ o. unwrap_or o (horizon + 1)) c.corner_after-next.ensures in
-    let put = put_turn (load_of c.args.self.now) c.loop.nexts place _ c.unwrap_or.result c.index-self-place.result
+    let told = c.next_of.ensures no_row in
+    let put = put_turn (load_of c.args.self.now) c.loop.nexts place _ c.next_of.result no_row
     c.loop.invariant.size (omega (arith, c.if-at-end.false, c.requires.near)) (sym c.if-not-is_turn.ensures) told in
     let turn = turn_at c.loop.nexts place _ (sym c.if-not-is_turn.ensures) in
     omega (arith, put.1, put.2, c.loop.invariant.leaves place put.0, turn.1)
@@ -82,7 +95,7 @@ loop-preserved g c =
     let known = c.loop.invariant in
     let place = slice_index_or c.loop.keys 1 0 % 32 in
     let at = slice_index_or c.loop.keys 1 0 / 32 in
-    let x = c.unwrap_or.result in
+    let x = c.next_of.result in
     let turn = turn_at c.loop.nexts place at (sym c.if-not-is_turn.ensures) in
     let small : place < length l.above = omega (arith, known.size, turn.0) in
     let near : at ≤ horizon = omega (arith, c.if-at-end.false, c.requires.near) in
@@ -90,9 +103,6 @@ loop-preserved g c =
     (omega (arith, known.size, c.args.self.now.countable.few)) in
     let least : (k : ℕ) → k < length l.above → at ≤ slice_index_or c.loop.nexts k 0 =
     λ k low. root k (omega (arith, known.size, low)) in
-    let told = c.unwrap_or.ensures ∙ ap (λ o. unwrap_or o (horizon + 1)) c.corner_after-next.ensures in
-    let next : (r : Row) → x ≡ next_after l.bound at (get_or l.above place r) = λ r. told
-    ∙ ap (next_after l.bound at) (get_or_default l.above place c.index-self-place.result r small) in
     let set : slice_index_or (slice_set c.loop.nexts place x) place 0 ≡ x =
     get_or-set_at c.loop.nexts place place x 0 refl turn.0 in
     record {
@@ -100,7 +110,8 @@ loop-preserved g c =
       within = c.if-at-end.false;
       tally = c.one_more-corners.ensures ∙ counted_there l c.loop.seen at c.loop.nexts known.turns least place small
           turn.1 near c.loop.corners known.tally;
-      turns = turns_on l c.loop.seen at c.loop.nexts known.turns least place small turn.1 near x next known.size;
+      turns = turns_on l c.loop.seen at c.loop.nexts known.turns least place small turn.1 near x c.next_of.ensures
+          known.size;
       tree = c.raise.ensures.tree;
       leaves = leaves_raised c.loop.keys c.raise.new.keys c.loop.nexts place x known.leaves turn.0
           (mod_below (slice_index_or c.loop.keys 1 0) 32 (omega arith))

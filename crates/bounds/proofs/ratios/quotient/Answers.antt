@@ -1,6 +1,6 @@
 use Rattle.std.proofs.Common.{◌+◌, ◌-◌, ◌*◌, ◌/◌, ◌<◌, ◌≤◌, ◌∙◌, ap, ap₂, subst, arith}
 use Rattle.bounds.proofs.Quotients.{not_above, is_told, is_next}
-use Rattle.bounds.proofs.questions.quotient.Goals as goal
+use Rattle.bounds.proofs.ratios.quotient.Goals as goal
 
 pub overflow_sub-x : goal.overflow_sub-x
 overflow_sub-x c =
