@@ -5,7 +5,7 @@ use Rattle.rows.specs.declared.refusals.Refusal.TheVariants.{BadFrame, StandingR
 use Rattle.rows.specs.declared.refusals.Refusal.TheVariants.{LateDeadline, LongPeriod, OffFrame, FullTable, NoRank}
 use Rattle.rows.specs.declared.refusals.Refusal.TheVariants.{Overload, ShortList, CutLeaf, StrangeLetter, OutOfTurn}
 use Rattle.rows.specs.declared.refusals.Refusal.TheVariants.{Miscount, BadFinding, LooseBytes, ShortBuffer}
-use Rattle.rows.specs.declared.refusals.Refusal.TheVariants.{UnknownBound}
+use Rattle.rows.specs.declared.refusals.Refusal.TheVariants.{UnknownBound, NewcomerOverload}
 use Rattle.rows.specs.declared.refusals.TheConstants.Refusal.{ALL}
 use Rattle.rows.specs.Refusals.{number}
 
@@ -31,3 +31,4 @@ listed BadFinding = refl
 listed LooseBytes = refl
 listed ShortBuffer = refl
 listed UnknownBound = refl
+listed NewcomerOverload = refl

@@ -5,7 +5,7 @@ use Rattle.rows.specs.declared.refusals.Refusal.TheVariants.{BadFrame, StandingR
 use Rattle.rows.specs.declared.refusals.Refusal.TheVariants.{LateDeadline, LongPeriod, OffFrame, FullTable, NoRank}
 use Rattle.rows.specs.declared.refusals.Refusal.TheVariants.{Overload, ShortList, CutLeaf, StrangeLetter, OutOfTurn}
 use Rattle.rows.specs.declared.refusals.Refusal.TheVariants.{Miscount, BadFinding, LooseBytes, ShortBuffer}
-use Rattle.rows.specs.declared.refusals.Refusal.TheVariants.{UnknownBound}
+use Rattle.rows.specs.declared.refusals.Refusal.TheVariants.{UnknownBound, NewcomerOverload}
 
 -- the number of a refusal
 abbrev pub number : Refusal → ℕ
@@ -29,6 +29,7 @@ number BadFinding = 17
 number LooseBytes = 18
 number ShortBuffer = 19
 number UnknownBound = 20
+number NewcomerOverload = 21
 
 -- the words of a refusal, as bytes
 abbrev pub words : Refusal → List ℕ
@@ -52,3 +53,4 @@ words BadFinding = codes "bad finding"
 words LooseBytes = codes "loose bytes"
 words ShortBuffer = codes "short buffer"
 words UnknownBound = codes "unknown bound"
+words NewcomerOverload = codes "newcomer overload"

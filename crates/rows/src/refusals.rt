@@ -31,6 +31,7 @@ pub enum Refusal {
     LooseBytes = 18,
     ShortBuffer = 19,
     UnknownBound = 20,
+    NewcomerOverload = 21,
 }
 
 /// A refusal with the position that it tells: a rank, the offset of a byte, or 0 where none is told.
@@ -42,7 +43,7 @@ pub struct Fault {
 
 impl Refusal {
     /// All refusals, in the order of their numbers.
-    pub const ALL: [Refusal; 20] = [
+    pub const ALL: [Refusal; 21] = [
         Refusal::BadFrame,
         Refusal::StandingRows,
         Refusal::BadAccuracy,
@@ -63,11 +64,12 @@ impl Refusal {
         Refusal::LooseBytes,
         Refusal::ShortBuffer,
         Refusal::UnknownBound,
+        Refusal::NewcomerOverload,
     ];
 
     /// All of them. Each is the first that is known by its number, and so the only one.
     #[tactic(auto, using(crate::proofs::Listed::listed))]
-    pub fn all() -> [Refusal; 20]
+    pub fn all() -> [Refusal; 21]
         ensures all { result ≡ ALL }
         ensures each { (r : Refusal) → find (λ x. number x == number r) ALL ≡ Some r }
     {
@@ -116,6 +118,7 @@ impl Refusal {
             Refusal::LooseBytes => "loose bytes",
             Refusal::ShortBuffer => "short buffer",
             Refusal::UnknownBound => "unknown bound",
+            Refusal::NewcomerOverload => "newcomer overload",
         }
     }
 }
