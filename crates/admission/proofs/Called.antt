@@ -13,7 +13,7 @@ use Rattle.rows.specs.declared.refusals.Fault.{Fault}
 use Rattle.rows.specs.declared.refusals.Refusal.TheVariants.{StandingRows, Overload, FullTable, NoRank}
 use Rattle.rows.specs.declared.tasks.Numbers.{Numbers}
 use Rattle.rows.specs.declared.tasks.Row.{Row}
-use Rattle.rows.specs.Answers.{check, check_each, checked, gives, refuses, refuses_at, Passes}
+use Rattle.rows.specs.Answers.{check, checked, first_refusal, gives, refuses, refuses_at, Passes}
 use Rattle.rows.specs.Frames.{frame_checks}
 use Rattle.rows.specs.Judging.{plain, rows_of, frame_flaws, flaw_checks}
 use Rattle.rows.specs.Lists.{at_rank, first_of}
@@ -30,15 +30,16 @@ use Rattle.admission.specs.declared.calls.Call.{Call}
 use Rattle.admission.specs.declared.calls.Call.TheVariants.{Frame, Admit, Dismiss, Inquire}
 use Rattle.admission.specs.declared.calls.Reply.{Reply}
 use Rattle.admission.specs.declared.calls.Reply.TheVariants.{Done, Refused}
-use Rattle.rows.specs.Books.{Book, IsJudged, book}
+use Rattle.rows.specs.Books.{Book, IsJudged, book, place_checks}
 use Rattle.rows.specs.Ranks.{is_rank, rank_checks}
 use Rattle.rows.proofs.Ranked.{ranked}
 use Rattle.findings.proofs.OnFrame.{judged_stand}
 use Rattle.admission.specs.declared.keeping.Kept.{Kept}
 use Rattle.admission.specs.Benches.{Held, bench, Does, IsCounted, Keeps, kept_findings}
-use Rattle.admission.specs.Books.{checks_of, once_done, overload_check, told, with_newcomer, without}
+use Rattle.admission.specs.Books.{checks_of, entry_checks, once_done, told, with_newcomer, without}
+use Rattle.admission.specs.Promises.{by_first_miss, overload_of}
 use Rattle.admission.specs.Replies.{Told, answer_of, done, row_found}
-use Rattle.admission.proofs.Steps.{Sound, step_given, step_refused}
+use Rattle.admission.proofs.Steps.{Sound, first_miss, step_given, step_refused}
 
 -- what is seen of a bench by a bound, with what it keeps
 abbrev pub seen : {B : Type 0} → B → Kept → Held B
@@ -94,7 +95,7 @@ all_meet fs none =
     All-weaker (λ f. is_miss f ≡ false) (λ f. is_met f ≡ true) (λ f. not-false (is_met f)) fs (nowhere is_miss fs none)
 
 -- a row of four numbers that is to be put in at a rank
-module _ (m : Meaning) (b : Book) (rank : ℕ) (n : Numbers) (r : Row)
+module _ (b : Book) (rank : ℕ) (n : Numbers) (r : Row)
     (judged : gives (plain r) ≡ checked (flaw_checks (frame_flaws b.frame) n 0) n) where
   -- the rows with the newcomer are those with it put in
   pub newcomer_is : with_newcomer rank n b.rows ≡ insert b.rows (rank - 1) r
@@ -103,36 +104,15 @@ module _ (m : Meaning) (b : Book) (rank : ℕ) (n : Numbers) (r : Row)
       ap (λ rs. take (rank - 1) b.rows ++ (rs ++ drop (rank - 1) b.rows))
       (ap (λ x. rows_of (x ∷ [])) same ∙ rows_of_plain (r ∷ []))
 
-  module _ (room : length b.rows + 1 ≤ most_rows) (low : 1 ≤ rank) (high : rank ≤ length b.rows + 1) where
-    -- the answer is that of the last check
-    last_check : (y : Told) → checked (checks_of m b (Admit rank n)) y ≡ checked (overload_check m b rank n ∷ []) y
-    last_check y =
-        let last = overload_check m b rank n in
-        sym (passed_first (flaw_checks (frame_flaws b.frame) n 0)
-        (check (leb most_rows (length b.rows)) FullTable 0 ∷ check (not (is_rank (length b.rows + 1) rank)) NoRank 0
-        ∷ last ∷ []) (plain r) n judged y)
-        ∙ passes_on (leb most_rows (length b.rows)) FullTable 0
-        (checked (check (not (is_rank (length b.rows + 1) rank)) NoRank 0 ∷ last ∷ []) y)
-        (lt-leb most_rows (length b.rows) (omega (arith, room)))
-        ∙ passes_on (not (is_rank (length b.rows + 1) rank)) NoRank 0 (checked (last ∷ []) y)
-        (is_within (length b.rows + 1) rank low high)
-
-    module _ (rows : List Row) (with : rows ≡ insert b.rows (rank - 1) r) where
-      -- a newcomer is admitted where with it no row misses
-      pub admits : position is_miss (findings_of m b.frame rows) ≡ None
-          → gives done ≡ checked (checks_of m b (Admit rank n)) done
-      admits none =
-          sym (last_check done
-          ∙ ap (λ rs. checked (check_each is_miss Overload (findings_of m b.frame rs) ∷ []) done)
-          (newcomer_is ∙ sym with) ∙ ap (λ o. refuses_at Overload (option_map (λ i. i + 1) o) (gives done)) none)
-
-      -- a newcomer is refused where with it a row misses
-      pub overloads : (i : ℕ) → position is_miss (findings_of m b.frame rows) ≡ Some i
-          → refuses Overload (i + 1) ≡ checked (checks_of m b (Admit rank n)) done
-      overloads i some =
-          sym (last_check done
-          ∙ ap (λ rs. checked (check_each is_miss Overload (findings_of m b.frame rs) ∷ []) done)
-          (newcomer_is ∙ sym with) ∙ ap (λ o. refuses_at Overload (option_map (λ i. i + 1) o) (gives done)) some)
+  -- where there is a place for it, it comes through the checks before those of misses
+  pub comes_through : length b.rows + 1 ≤ most_rows → 1 ≤ rank → rank ≤ length b.rows + 1
+      → Passes (entry_checks b rank n)
+  comes_through room low high =
+      let last = length b.rows + 1 in
+      sym (passes_on (leb most_rows (length b.rows)) FullTable 0 (first_refusal (rank_checks last rank))
+      (lt-leb most_rows (length b.rows) (omega (arith, room)))
+      ∙ passes_on (not (is_rank last rank)) NoRank 0 (gives tt) (is_within last rank low high))
+      ∙ passed_first (flaw_checks (frame_flaws b.frame) n 0) (place_checks (length b.rows) rank) (plain r) n judged tt
 
 -- a row taken out at a rank
 pub without_is : (rank : ℕ) (rows : List Row) → 1 ≤ rank → remove rows (rank - 1) ≡ without rank rows
@@ -208,22 +188,27 @@ module _ (m : Meaning) (k : Kept) (keeps : Keeps m k) (rank : ℕ) (low : 1 ≤ 
       (is_within (length rows) rank low high)
       ∙ ap gives (tells_so ∙ ap (row_found (plain r)) (sym finding_is)))
 
--- what an admit knows when it comes to count: the newcomer is a row on the frame, and there is a place at the rank
+-- what an admit knows when it comes to count: the newcomer is a row that comes through the checks before those of
+-- misses, and the table is judged
 pub record Enters (k : Kept) (rank : ℕ) (n : Numbers) (r : Row) : Type 0 where
   pub judged : gives (plain r) ≡ checked (flaw_checks (frame_flaws k.table.frame) n 0) n
-  pub room : length k.table.rows + 1 ≤ most_rows
-  pub ranked_so : (1 ≤ rank) × (rank ≤ length k.table.rows + 1)
+  pub passes : Passes (entry_checks k.table rank n)
+  pub table : IsJudged k.table
 
 -- it comes from the checks made
 pub entering : (k : Kept) (rank : ℕ) (n : Numbers) (r : Row) (h : FrameNumbers) (count : ℕ) → h ≡ k.table.frame
     → gives (plain r) ≡ checked (flaw_checks (frame_flaws h) n 0) n
     → count ≡ length k.table.rows → IsJudged k.table → count ≢ most_rows → Passes (rank_checks (count + 1) rank)
     → Enters k rank n r
-entering k rank n r h count frame judged many table apart passes = record {
-  judged = subst (λ h. gives (plain r) ≡ checked (flaw_checks (frame_flaws h) n 0) n) frame judged;
-  room = omega (arith, many, table.few, apart);
-  ranked_so = let is = ranked (count + 1) rank passes in (is.0, omega (arith, is.1, many));
-}
+entering k rank n r h count frame judged many table apart passes =
+    let its = subst (λ h. gives (plain r) ≡ checked (flaw_checks (frame_flaws h) n 0) n) frame judged in
+    let within = ranked (count + 1) rank passes in
+    record {
+      judged = its;
+      passes = comes_through k.table rank n r its (omega (arith, many, table.few, apart)) within.0
+          (omega (arith, within.1, many));
+      table = table;
+    }
 
 -- a table with a row of four numbers put in at a rank
 module _ {B : Type 0} (m : Meaning) (bound : B) (k : Kept) (keeps : Keeps m k) (rank : ℕ) (n : Numbers) (r : Row)
@@ -234,25 +219,29 @@ module _ {B : Type 0} (m : Meaning) (bound : B) (k : Kept) (keeps : Keeps m k) (
   pub kept_with : position is_miss (kept_findings new) ≡ None → Keeps m new
   kept_with none = record { counted = counted; meet = all_meet (kept_findings new) none }
 
-  -- its findings are those of the rows with the newcomer
-  found_with : kept_findings new ≡ findings_of m k.table.frame (insert k.table.rows (rank - 1) r)
-  found_with = counted ∙ ap (λ b. findings_of m b.frame b.rows) with
+  -- its book is the one with the newcomer
+  its_book : new.table ≡ book k.table.frame (with_newcomer rank n k.table.rows)
+  its_book = with ∙ ap (book k.table.frame) (sym (newcomer_is k.table rank n r enters.judged))
+
+  -- so the answer is decided by the first miss that it keeps
+  decided_so : by_first_miss rank (position is_miss (kept_findings new))
+      ≡ checked (checks_of m k.table (Admit rank n)) done
+  decided_so =
+      ap (λ fs. by_first_miss rank (position is_miss fs))
+      (counted ∙ ap (λ b. findings_of m b.frame b.rows) its_book)
+      ∙ first_miss m k.table rank n enters.passes (kept_sound m k enters.table keeps)
 
   -- where with the newcomer no row misses, the bench with it is that of an admission
   pub admits_so : position is_miss (kept_findings new) ≡ None
       → Does m (Admit rank n) (seen bound k) (seen bound new) Done
   admits_so none =
       does_so m (Admit rank n) (seen bound k) (seen bound new) Done done
-      (admits m k.table rank n r enters.judged enters.room enters.ranked_so.0 enters.ranked_so.1
-      (insert k.table.rows (rank - 1) r) refl (ap (position is_miss) (sym found_with) ∙ none))
-      refl
-      (kept_is m bound new (kept_with none)
-      ∙ ap (bench m bound) (with ∙ ap (book k.table.frame) (sym (newcomer_is m k.table rank n r enters.judged))))
+      (ap (by_first_miss rank) (sym none) ∙ decided_so) refl
+      (kept_is m bound new (kept_with none) ∙ ap (bench m bound) its_book)
 
   -- where with the newcomer a row misses, it is refused for the first that does
-  pub overloads_so : (i : ℕ) → position is_miss (kept_findings new) ≡ Some i
-      → Does m (Admit rank n) (seen bound k) (seen bound k) (Refused (record { refusal = Overload; at = i + 1 }))
+  pub overloads_so : (i : ℕ) → position is_miss (kept_findings new) ≡ Some i → Does m (Admit rank n) (seen bound k)
+      (seen bound k) (Refused (record { refusal = overload_of rank (i + 1); at = i + 1 }))
   overloads_so i some =
-      refuses_so m (Admit rank n) (seen bound k) (record { refusal = Overload; at = i + 1 }) (kept_is m bound k keeps)
-      (overloads m k.table rank n r enters.judged enters.room enters.ranked_so.0 enters.ranked_so.1
-      (insert k.table.rows (rank - 1) r) refl i (ap (position is_miss) (sym found_with) ∙ some))
+      refuses_so m (Admit rank n) (seen bound k) (record { refusal = overload_of rank (i + 1); at = i + 1 })
+      (kept_is m bound k keeps) (ap (by_first_miss rank) (sym some) ∙ decided_so)

@@ -1,14 +1,10 @@
 -- A more accurate linear tail admits no less, and its rows rest no later.
-use Rattle.std.proofs.Common.{◌≡◌, ℕ, ◌+◌, ◌≤◌, true, false, List, [], ◌∷◌, sym, ◌∙◌, subst}
+use Rattle.std.proofs.Common.{◌≡◌, ℕ, ◌≤◌, List, ◌∷◌, sym, ◌∙◌, subst}
 use Rattle.std.specs.List.{AllPass}
-use Rattle.std.proofs.lemmas.Bool.{not_from_true}
-use Rattle.std.proofs.lemmas.List.Elements.{All-weaker}
-use Rattle.rows.specs.declared.refusals.Refusal.TheVariants.{Overload}
 use Rattle.rows.specs.declared.tasks.Numbers.{Numbers}
 use Rattle.rows.specs.declared.frames.FrameNumbers.{FrameNumbers}
 use Rattle.rows.specs.declared.tasks.Row.{Row}
 use Rattle.rows.specs.Answers.{gives}
-use Rattle.rows.proofs.Checks.{passed_first, places_pass_on}
 use Rattle.bounds.specs.Supplied.{linear_tail}
 use Rattle.findings.specs.Countable.{StandOn}
 use Rattle.findings.specs.Findings.{row_finding}
@@ -17,14 +13,14 @@ use Rattle.brackets.specs.Bracketing.{IsNoLater}
 use Rattle.brackets.proofs.Earlier.{some_earlier}
 use Rattle.brackets.proofs.Tails.{finer_tails}
 use Rattle.admission.specs.declared.calls.Call.TheVariants.{Admit}
-use Rattle.rows.specs.Found.{is_met, is_miss}
+use Rattle.rows.specs.Found.{is_met}
 use Rattle.rows.specs.Books.{Book}
-use Rattle.admission.specs.Books.{entry_checks, overload_check, with_newcomer, step}
+use Rattle.admission.specs.Books.{with_newcomer, step}
 use Rattle.admission.specs.Promises.{FinerAdmits, FinerAdmitsOn, FinerRests, FinerRestsOn}
 use Rattle.admission.specs.Replies.{done}
 use Rattle.admission.specs.Runs.{book_after}
 use Rattle.admission.proofs.Findings.{each_meets, all_met}
-use Rattle.admission.proofs.Steps.{step_answers, stands_before, stands_with, runs_sound, admitted}
+use Rattle.admission.proofs.Steps.{step_answers, stands_before, stands_with, runs_sound, admits, admitted}
 
 -- rows that meet by a linear tail meet by every more accurate one
 finer_meet : (k k' : ℕ) (h : FrameNumbers) (rows : List Row) → 1 ≤ k → k ≤ k' → StandOn h.ticks rows
@@ -38,17 +34,12 @@ finer_meet k k' h rows low order stand met =
 -- on a book that is sound a newcomer that a linear tail admits is admitted by every more accurate one
 finer_admit : (k k' : ℕ) (b : Book) (rank : ℕ) (n : Numbers) → 1 ≤ k → k ≤ k' → StandOn b.frame.ticks b.rows
     → (step (linear_tail k) b (Admit rank n)).1 ≡ gives done → (step (linear_tail k') b (Admit rank n)).1 ≡ gives done
-finer_admit k k' b rank n low order stand admits =
+finer_admit k k' b rank n low order stand admitted_so =
     let m = linear_tail k in
-    let m' = linear_tail k' in
-    let rows = with_newcomer rank n b.rows in
-    let passed = admitted m b rank n done done (sym admits ∙ step_answers m b (Admit rank n)) in
-    let meet = finer_meet k k' b.frame rows low order (stands_with b rank n stand passed.1) passed.2 in
-    let none = All-weaker (λ f. is_met f ≡ true) (λ f. is_miss f ≡ false) (λ f. not_from_true (is_met f))
-    (findings_of m' b.frame rows) meet in
-    step_answers m' b (Admit rank n)
-    ∙ sym (passed_first (entry_checks b rank n) (overload_check m' b rank n ∷ []) tt tt passed.0 done)
-    ∙ places_pass_on is_miss (λ i. i + 1) (findings_of m' b.frame rows) Overload (gives done) none
+    let passed = admitted m b rank n done done (sym admitted_so ∙ step_answers m b (Admit rank n)) in
+    let meet = finer_meet k k' b.frame (with_newcomer rank n b.rows) low order (stands_with b rank n stand passed.1)
+    passed.2 in
+    step_answers (linear_tail k') b (Admit rank n) ∙ sym (admits (linear_tail k') b rank n passed.0 meet)
 
 -- so it is on every book whose rows stand on its frame
 pub finer_admits_on : (b : Book) → StandOn b.frame.ticks b.rows → FinerAdmitsOn b

@@ -1,7 +1,9 @@
 pub mod Findings
 pub mod Counted
 pub mod Entry
+pub mod Places
 pub mod Runs
+pub mod Decided
 pub mod Steps
 pub mod Standing
 pub mod Finer

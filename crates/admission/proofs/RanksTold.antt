@@ -36,7 +36,7 @@ checks_zero (c ∷ cs) zero r at x refused none = by c.at refl refused (λ more.
         place ∙ zero.0 p is (ap tells_rank (sym same) ∙ none)
     by None is here later = later here
 
--- the checks of every call are such: only overload tells another position
+-- the checks of every call are such: only those of misses tell another position
 calls_zero : (m : Meaning) (b : Book) (c : Call) → AllByRecursion TellsZero (checks_of m b c)
 calls_zero m b (Frame h) = (check_zero _ BadFrame, (check_zero _ StandingRows, tt))
 calls_zero m b (Admit rank n) = (
@@ -49,7 +49,7 @@ calls_zero m b (Admit rank n) = (
         check_zero _ LongPeriod,
         (
           check_zero _ OffFrame,
-          (check_zero _ FullTable, (check_zero _ NoRank, ((λ at told none. cc), tt))),
+          (check_zero _ FullTable, (check_zero _ NoRank, ((λ at told none. cc), ((λ at told none. cc), tt)))),
         ),
       ),
     ),

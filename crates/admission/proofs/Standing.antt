@@ -1,8 +1,8 @@
 -- What the standing rows keep.
-use Rattle.std.proofs.Common.{◌≡◌, ℕ, suc, ◌-◌, ◌≤◌, true, not, List, ◌∷◌, ◌++◌, length, take, drop, is_some, Some}
+use Rattle.std.proofs.Common.{◌≡◌, ℕ, ◌-◌, true, not, List, ◌∷◌, ◌++◌, length, take, drop, is_some, Some}
 use Rattle.std.proofs.Common.{None, Option, refl, sym, ap, ◌∙◌, subst, arith}
 use Rattle.std.specs.Option.{option_map, unwrap_or}
-use Rattle.std.proofs.lemmas.List.{drop_at, length-take-le}
+use Rattle.std.proofs.lemmas.List.{length-take-le}
 use Rattle.rows.specs.declared.frames.FrameNumbers.{FrameNumbers}
 use Rattle.rows.specs.declared.refusals.Refusal.TheVariants.{NoRank}
 use Rattle.rows.specs.declared.tasks.Row.{Row}
@@ -11,7 +11,6 @@ use Rattle.rows.specs.Answers.{checked, gives}
 use Rattle.rows.specs.Books.{Book}
 use Rattle.rows.specs.Found.{tells}
 use Rattle.rows.specs.Judging.{plain}
-use Rattle.rows.specs.Lists.{at_rank, first_of}
 use Rattle.rows.specs.Ranks.{is_rank}
 use Rattle.rows.proofs.Checks.{first_passes, given_is}
 use Rattle.rows.proofs.Ranked.{rank_within}
@@ -32,6 +31,7 @@ use Rattle.admission.specs.Promises.{MeetsByBoth, RowsMeetByBoth, StandingRowsMe
 use Rattle.admission.specs.Replies.{answer_of, done, row_found}
 use Rattle.admission.specs.Runs.{book_after}
 use Rattle.admission.proofs.Findings.{each_meets}
+use Rattle.admission.proofs.Places.{at_there}
 use Rattle.admission.proofs.Steps.{Sound, parts_at, stands_before, step_answers, runs_sound}
 
 -- a row that meets by a bound whose first rest lies between those in exact steps meets by both
@@ -64,14 +64,6 @@ rows_meet m laws b sound xs ys r split =
 -- so it is after every list of calls
 pub standing_rows_meet : (m : Meaning) → Laws m → StandingRowsMeet m
 standing_rows_meet m laws calls = rows_meet m laws (book_after m calls) (runs_sound m calls)
-
--- the row that stands at a rank
-at_there : (rank : ℕ) (rows xs ys : List Row) (x : Row) → 1 ≤ rank → length xs ≡ rank - 1 → rows ≡ xs ++ x ∷ ys
-    → at_rank rank rows ≡ Some x
-at_there rank rows xs ys x low place split =
-    let up : suc (rank - 1) ≡ rank = omega arith in
-    subst (λ n. at_rank n rows ≡ Some x) up
-    (ap (λ rs. first_of (drop (rank - 1) rs)) split ∙ ap first_of (drop_at xs (x ∷ ys) (rank - 1) place))
 
 -- the row that is told to who inquires at a rank of a sound book stands there and meets by both
 row_told : (m : Meaning) → Laws m → (b : Book) → Sound m b → (rank : ℕ) (r : Row) (f : Finding)

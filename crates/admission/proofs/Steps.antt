@@ -1,22 +1,22 @@
 -- What every call keeps.
-use Rattle.std.proofs.Common.{◌≡◌, ℕ, ◌+◌, ◌-◌, ◌≤◌, true, false, not, ltb, List, [], ◌∷◌, ◌++◌, suc, length, take}
-use Rattle.std.proofs.Common.{drop, get_or, sym, refl, ap, ◌∙◌, subst, arith}
+use Rattle.std.proofs.Common.{◌≡◌, ℕ, ◌+◌, ◌-◌, ◌≤◌, true, not, ltb, List, [], ◌∷◌, ◌++◌, suc, length, take}
+use Rattle.std.proofs.Common.{drop, get_or, sym, refl, ap, ◌∙◌, subst, arith, position}
 use Rattle.std.specs.List.{AllPass}
 use Rattle.std.proofs.Math.Seq.{split_at}
 use Rattle.std.proofs.lemmas.Bool.{not-false, ltb-false}
-use Rattle.std.proofs.lemmas.List.{append_assoc, append-nil, drop_at, length-append, length-drop, length-take-le}
-use Rattle.std.proofs.lemmas.List.{nil_from_length, take_at}
-use Rattle.std.proofs.lemmas.List.Elements.{All-nil, All-cons, All-append, All-take, All-drop, All-weaker, All-head}
+use Rattle.std.proofs.lemmas.List.{append_assoc, append-nil, length-append, length-drop, length-take-le}
+use Rattle.std.proofs.lemmas.List.{nil_from_length, take_at, take-append-drop}
+use Rattle.std.proofs.lemmas.List.Elements.{All-nil, All-cons, All-append, All-take, All-drop, All-head}
 use Rattle.std.proofs.lemmas.List.Elements.{All-tail}
 use Rattle.rows.specs.declared.frames.FrameNumbers.{FrameNumbers}
 use Rattle.rows.specs.declared.refusals.Refusal.{Refusal}
-use Rattle.rows.specs.declared.refusals.Refusal.TheVariants.{BadFrame, StandingRows, NoRank, Overload}
+use Rattle.rows.specs.declared.refusals.Refusal.TheVariants.{BadFrame, StandingRows, NoRank}
 use Rattle.rows.specs.declared.tasks.Numbers.{Numbers}
 use Rattle.rows.specs.declared.tasks.Row.{Row}
 use Rattle.rows.specs.Answers.{Answer, gives, refuses, checked, Passes}
 use Rattle.rows.specs.Counting.{is_on_frame}
 use Rattle.rows.specs.Times.{is_frame, most_rows}
-use Rattle.rows.proofs.Checks.{first_passes, each_passes}
+use Rattle.rows.proofs.Checks.{first_passes, passed_first}
 use Rattle.bounds.specs.Meaning.{Meaning}
 use Rattle.rows.specs.Found.{Found, is_met, is_miss}
 use Rattle.findings.specs.Countable.{StandOn}
@@ -29,12 +29,15 @@ use Rattle.admission.specs.declared.calls.Call.TheVariants.{Frame, Admit, Dismis
 use Rattle.rows.specs.Books.{Book, book}
 use Rattle.rows.specs.Ranks.{is_rank}
 use Rattle.rows.proofs.Ranked.{rank_within}
-use Rattle.admission.specs.Books.{checks_of, entry_checks, first_book, once_done, overload_check, step, told}
-use Rattle.admission.specs.Books.{with_newcomer, without}
-use Rattle.admission.specs.Replies.{Told}
+use Rattle.admission.specs.Books.{checks_of, entry_checks, findings_with, first_book, miss_checks, once_done, step}
+use Rattle.admission.specs.Books.{told, with_newcomer, without}
+use Rattle.admission.specs.Promises.{by_first_miss}
+use Rattle.admission.specs.Replies.{Told, done}
 use Rattle.admission.specs.Runs.{book_from, book_after}
 use Rattle.admission.proofs.Findings.{findings_append}
 use Rattle.admission.proofs.Entry.{Enters, enters, left_to}
+use Rattle.admission.proofs.Places.{all_parts}
+use Rattle.admission.proofs.Decided.{decided, met_passes, passes_met}
 
 -- the rows of a book stand on its frame, there are places enough, and every row meets
 pub record Sound (m : Meaning) (b : Book) : Type 0 where
@@ -133,17 +136,24 @@ met_without : (m : Meaning) (h : FrameNumbers) (x : Row) (xs ys : List Row)
 met_without m h x xs ys met =
     let Met : Found → Type 0 = λ f. is_met f ≡ true in
     let first = findings_of m h xs in
-    let there = row_finding m h x xs ∷ findings_below m h (xs ++ x ∷ []) ys in
-    let all = subst (AllPass is_met) (findings_append m h [] xs (x ∷ ys)) met in
-    let front = subst (AllPass is_met) (take_at first there (length first) refl)
-    (All-take Met (length first) (first ++ there) all) in
-    let back = subst (AllPass is_met) (drop_at first there (length first) refl)
-    (All-drop Met (length first) (first ++ there) all) in
-    let below = All-tail Met (row_finding m h x xs) (findings_below m h (xs ++ x ∷ []) ys) back in
+    let parts = all_parts Met first (row_finding m h x xs ∷ findings_below m h (xs ++ x ∷ []) ys)
+    (subst (AllPass is_met) (findings_append m h [] xs (x ∷ ys)) met) in
+    let below = All-tail Met (row_finding m h x xs) (findings_below m h (xs ++ x ∷ []) ys) parts.1 in
     let still = subst (λ a. AllPass is_met (findings_below m h a ys)) (append-nil xs)
     (still_met m h x xs [] ys below) in
     subst (AllPass is_met) (sym (findings_append m h [] xs ys))
-    (All-append Met first (findings_below m h xs ys) front still)
+    (All-append Met first (findings_below m h xs ys) parts.0 still)
+
+-- where all rows of a table meet, so do the first of them
+pub meet_before : (m : Meaning) (h : FrameNumbers) (rows : List Row) (i : ℕ) → AllPass is_met (findings_of m h rows)
+    → AllPass is_met (findings_of m h (take i rows))
+meet_before m h rows i met =
+    let front = take i rows in
+    let back = drop i rows in
+    let both : AllPass is_met (findings_of m h (front ++ back)) =
+    subst (λ rs. AllPass is_met (findings_of m h rs)) (sym (take-append-drop i rows)) met in
+    (all_parts (λ f. is_met f ≡ true) (findings_of m h front) (findings_below m h front back)
+    (subst (AllPass is_met) (findings_append m h [] front back) both)).0
 
 -- the rows of a table part at a rank
 pub parts_at : (rank : ℕ) (rows : List Row) → 1 ≤ rank → rank ≤ length rows
@@ -194,19 +204,30 @@ with_sound m b rank n sound entry met =
       meet = met;
     }
 
--- an admit that is answered has passed its checks but for overload: the newcomer enters, and with it every row meets
+-- an admit that is answered has passed its checks: the newcomer enters, and with it every row meets
 pub admitted : (m : Meaning) (b : Book) (rank : ℕ) (n : Numbers) (x y : Told)
     → gives x ≡ checked (checks_of m b (Admit rank n)) y
-    → Passes (entry_checks b rank n) × Enters b rank n
-    × AllPass is_met (findings_of m b.frame (with_newcomer rank n b.rows))
+    → Passes (entry_checks b rank n) × Enters b rank n × AllPass is_met (findings_with m b rank n)
 admitted m b rank n x y given =
-    let findings = findings_of m b.frame (with_newcomer rank n b.rows) in
-    let parts = left_to (entry_checks b rank n) (overload_check m b rank n ∷ []) (gives x) y refl given in
-    let meet = (each_passes is_miss findings Overload x (gives y) parts.1).0 in (
-      parts.0,
-      enters b rank n parts.0,
-      All-weaker (λ f. is_miss f ≡ false) (λ f. is_met f ≡ true) (λ f. not-false (is_met f)) findings meet,
-    )
+    let passed = left_to (entry_checks b rank n) (miss_checks m b rank n) (gives x) y refl given in
+    let entry = enters b rank n passed.0 in (passed.0, entry, passes_met m b rank n entry x y passed.1)
+
+-- a newcomer that comes through the other checks
+module _ (m : Meaning) (b : Book) (rank : ℕ) (n : Numbers) (passes : Passes (entry_checks b rank n)) where
+  -- is answered by the checks of misses
+  last_checks : checked (miss_checks m b rank n) done ≡ checked (checks_of m b (Admit rank n)) done
+  last_checks = passed_first (entry_checks b rank n) (miss_checks m b rank n) tt tt passes done
+
+  -- is admitted where with it every row meets
+  pub admits : AllPass is_met (findings_with m b rank n) → gives done ≡ checked (checks_of m b (Admit rank n)) done
+  admits met = sym (met_passes m b rank n (enters b rank n passes) met done) ∙ last_checks
+
+  -- is answered by the first miss with it, where every row that stands meets
+  pub first_miss : Sound m b
+      → by_first_miss rank (position is_miss (findings_with m b rank n)) ≡ checked (checks_of m b (Admit rank n)) done
+  first_miss sound =
+      sym (decided m b rank n (enters b rank n passes) (meet_before m b.frame b.rows (rank - 1) sound.meet))
+      ∙ last_checks
 
 -- a call that is answered keeps the book sound
 done_sound : (m : Meaning) (b : Book) (c : Call) (x y : Told) → gives x ≡ checked (checks_of m b c) y → Sound m b

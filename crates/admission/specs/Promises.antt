@@ -1,14 +1,15 @@
 -- What holds of a bench: of its rows, of what each call replies, and after every list of calls.
-use Rattle.std.specs.Prelude.{◌≡◌, ◌≢◌, ℕ, ◌+◌, ◌≤◌, false, List, [], ◌∷◌, ◌++◌, length, Some, None, nat_lt}
-use Rattle.std.specs.Prelude.{Ok, Err, Result}
+use Rattle.std.specs.Prelude.{◌≡◌, ◌≢◌, ℕ, ◌+◌, ◌-◌, ◌<◌, ◌≤◌, ◌==◌, true, false, List, [], ◌∷◌, ◌++◌, length, take}
+use Rattle.std.specs.Prelude.{Some, None, Option, Ok, Err, Result, nat_lt, position, if◌then◌else◌}
 use Rattle.std.specs.List.{AllPass}
 use Rattle.rows.specs.declared.frames.FrameNumbers.{FrameNumbers}
 use Rattle.rows.specs.declared.refusals.Refusal.{Refusal}
-use Rattle.rows.specs.declared.refusals.Refusal.TheVariants.{Overload, ShortList}
+use Rattle.rows.specs.declared.refusals.Refusal.TheVariants.{Overload, NewcomerOverload, ShortList}
 use Rattle.rows.specs.declared.tasks.Numbers.{Numbers}
 use Rattle.rows.specs.declared.tasks.Row.{Row}
-use Rattle.rows.specs.Answers.{Answer, Check, check, gives, refuses}
+use Rattle.rows.specs.Answers.{Answer, Check, Passes, check, gives, refuses}
 use Rattle.rows.specs.Books.{Book}
+use Rattle.rows.specs.Judging.{rows_of}
 use Rattle.rows.specs.Lists.{at_rank}
 use Rattle.bounds.specs.Meaning.{Meaning}
 use Rattle.bounds.specs.Supplied.{linear_tail}
@@ -21,8 +22,8 @@ use Rattle.admission.specs.declared.calls.Call.TheVariants.{Admit, Inquire}
 use Rattle.admission.specs.declared.calls.Reply.{Reply}
 use Rattle.admission.specs.declared.calls.Reply.TheVariants.{Found as FoundRow}
 use Rattle.admission.specs.declared.unplayed.NotPlayed.{NotPlayed}
-use Rattle.rows.specs.Found.{Found, is_met, tells}
-use Rattle.admission.specs.Books.{step, with_newcomer}
+use Rattle.rows.specs.Found.{Found, is_met, is_miss, tells}
+use Rattle.admission.specs.Books.{entry_checks, findings_with, step, with_newcomer}
 use Rattle.admission.specs.Replies.{Told, done, tells_rank}
 use Rattle.admission.specs.Runs.{book_after, answers_to}
 
@@ -81,12 +82,32 @@ pub record NamesMiss (m : Meaning) (h : FrameNumbers) (rows : List Row) (at : �
   pub misses : (row_finding m h row above).rest ≡ None
   pub slow : slow_rest m.accuracy row above ≡ None
 
--- an answer to a call on a book, where it refuses for overload, is that to an admit, and names such a row with the
--- newcomer put in at its rank
+-- the rank at is that of the newcomer, put in at a rank of a book, and the newcomer misses there by a bound of accuracy
+-- k and in exact steps at speed k / (k + 1)
+pub record NamesNewcomer (m : Meaning) (b : Book) (rank : ℕ) (n : Numbers) (at : ℕ) : Type 0 where
+  pub own : at ≡ rank
+  pub row : Row
+  pub made : rows_of (n ∷ []) ≡ row ∷ []
+  pub misses : (row_finding m b.frame row (take (rank - 1) b.rows)).rest ≡ None
+  pub slow : slow_rest m.accuracy row (take (rank - 1) b.rows) ≡ None
+
+-- with the newcomer put in at a rank of a book, the rank at is the smallest at which a row misses, so by the bound and
+-- at that speed; that row stood before, at a rank that was one less, and the newcomer, above it, meets by the bound
+pub record NamesStanding (m : Meaning) (b : Book) (rank : ℕ) (n : Numbers) (at : ℕ) : Type 0 where
+  pub miss : NamesMiss m b.frame (with_newcomer rank n b.rows) at
+  pub below : rank < at
+  pub stood : at_rank (at - 1) b.rows ≡ Some miss.row
+  pub newcomer : Row
+  pub made : rows_of (n ∷ []) ≡ newcomer ∷ []
+  pub meets : is_met (row_finding m b.frame newcomer (take (rank - 1) b.rows)) ≡ true
+
+-- an answer to a call on a book, where it refuses for newcomer overload or for overload, is that to an admit, and names
+-- the newcomer, or such a row that stood before
 abbrev pub OverloadMisses : Meaning → Book → Call → Answer Told → Type 0
 OverloadMisses m b (Admit rank n) a =
-    (at : ℕ) → a ≡ refuses Overload at → NamesMiss m b.frame (with_newcomer rank n b.rows) at
-OverloadMisses m b c a = (at : ℕ) → a ≢ refuses Overload at
+    ((at : ℕ) → a ≡ refuses NewcomerOverload at → NamesNewcomer m b rank n at)
+    × ((at : ℕ) → a ≡ refuses Overload at → NamesStanding m b rank n at)
+OverloadMisses m b c a = ((at : ℕ) → a ≢ refuses NewcomerOverload at) × ((at : ℕ) → a ≢ refuses Overload at)
 
 -- so it is with every answer, at any place of any list of calls
 abbrev pub OverloadsMiss : Meaning → Type 0
@@ -94,6 +115,31 @@ OverloadsMiss m =
     (before after : List Call) (c : Call) (a : Answer Told)
     → at_rank (length before + 1) (answers_to m (before ++ c ∷ after)) ≡ Some a
     → OverloadMisses m (book_after m before) c a
+
+-- what an admit at a rank is refused with where the first row that misses, with the newcomer in place, has the rank at:
+-- newcomer overload where that is the newcomer, and else overload
+abbrev pub overload_of : ℕ → ℕ → Refusal
+overload_of rank at = if at == rank then NewcomerOverload else Overload
+
+-- the answer to an admit at a rank by the place of the first miss of the table with the newcomer, if there is one
+abbrev pub by_first_miss : ℕ → Option ℕ → Answer Told
+by_first_miss rank None = gives done
+by_first_miss rank (Some place) = refuses (overload_of rank (place + 1)) (place + 1)
+
+-- on a book a newcomer put in at a rank leaves the rows above it met, so that the first miss of the table with it, if
+-- there is one, decides the answer
+pub record FirstMissDecides (m : Meaning) (b : Book) (rank : ℕ) (n : Numbers) : Type 0 where
+  pub above : AllPass is_met (take (rank - 1) (findings_with m b rank n))
+  pub answer : (step m b (Admit rank n)).1 ≡ by_first_miss rank (position is_miss (findings_with m b rank n))
+
+-- so it is with every newcomer that comes through the checks before those of misses
+abbrev pub FirstMissDecidesOn : Meaning → Book → Type 0
+FirstMissDecidesOn m b =
+    (rank : ℕ) (n : Numbers) → Passes (entry_checks b rank n) → FirstMissDecides m b rank n
+
+-- so it is after every list of calls
+abbrev pub FirstMissesDecide : Meaning → Type 0
+FirstMissesDecide m = (calls : List Call) → FirstMissDecidesOn m (book_after m calls)
 
 -- a refusal of another kind tells 0, whatever the call and the book
 abbrev pub OthersTellZero : Type 0

@@ -2,7 +2,7 @@
 use Rattle.std.specs.Prelude.{Bool, true, false, Ok, Err, Result}
 use Rattle.rows.specs.declared.refusals.Fault.{Fault}
 use Rattle.rows.specs.declared.refusals.Refusal.{Refusal}
-use Rattle.rows.specs.declared.refusals.Refusal.TheVariants.{Overload}
+use Rattle.rows.specs.declared.refusals.Refusal.TheVariants.{Overload, NewcomerOverload}
 use Rattle.rows.specs.declared.tasks.Numbers.{Numbers}
 use Rattle.rows.specs.declared.tasks.Row.{Row}
 use Rattle.rows.specs.Answers.{Answer, gives, refuses}
@@ -17,8 +17,10 @@ pub data Told : Type 0 where
   done : Told
   row_found : Numbers → Found → Told
 
--- a refusal of a bench tells a rank: overload does, the smallest whose row would miss; every other one tells 0
+-- a refusal of a bench tells a rank: newcomer overload does, the newcomer's own, and overload, the smallest at which a
+-- row that stood would miss; every other one tells 0
 abbrev pub tells_rank : Refusal → Bool
+tells_rank NewcomerOverload = true
 tells_rank Overload = true
 tells_rank _ = false
 

@@ -1,4 +1,7 @@
 // The bench: its four calls, and what can be seen of it.
+ghost use Rattle.std.specs.Prelude.{◌≡◌};
+ghost use Rattle.admission.specs.Promises.{overload_of};
+
 use crate::calls::{Call, Reply};
 use crate::keeping::Kept;
 use bounds::Bound;
@@ -35,7 +38,7 @@ impl<B: Bound> Bench<B> {
     ghost use Rattle.findings.specs.Tables.{findings_of};
     ghost use Rattle.admission.specs.Benches.{bench, Does};
     ghost use Rattle.admission.specs.Books.{first_book};
-    ghost use Rattle.admission.specs.Promises.{FinerAdmitsOn, FinerRestsOn};
+    ghost use Rattle.admission.specs.Promises.{FinerAdmitsOn, FinerRestsOn, FirstMissDecidesOn};
     ghost use Rattle.admission.specs.Promises.{OverloadMisses, RowsMeetByBoth, TellsStanding};
     ghost use Rattle.admission.specs.Replies.{answer_of, as_done, as_found, IfRefused};
     ghost use Rattle.admission.specs.Runs.{GoesOn};
@@ -59,12 +62,14 @@ impl<B: Bound> Bench<B> {
     }
 
     /// The frame, and the rows that stand, in rank order: at most 32, all on the frame. Each meets by
-    /// the bound and in exact steps, and a newcomer that a linear tail admits to them is admitted by
-    /// every more accurate one (docs/RULES.md, After every list of calls).
+    /// the bound and in exact steps. Of a newcomer that comes to be counted, the first row that misses
+    /// with it in place decides the answer; and where a linear tail admits one, every more accurate
+    /// tail does (docs/RULES.md, After every list of calls).
     pub fn table(&self) -> &Table
         ensures answered { result.now ≡ self.now.book }
         ensures stand { IsJudged self.now.book }
         ensures both { RowsMeetByBoth (B.meaning self.now.bound) self.now.book }
+        ensures decides { FirstMissDecidesOn (B.meaning self.now.bound) self.now.book }
         ensures finer_admits { FinerAdmitsOn self.now.book }
         ensures finer_rests { FinerRestsOn self.now.book }
     {
@@ -108,11 +113,12 @@ impl<B: Bound> Bench<B> {
     /// Puts the row of four numbers in at a rank, and the rows from there on move down (docs/RULES.md,
     /// The bench).
     ///
-    /// Refused, each at 0 but the last, with 4, idle row, 5, no window, 6, late deadline, 7, long
+    /// Refused, each at 0 but the last two, with 4, idle row, 5, no window, 6, late deadline, 7, long
     /// period; 8, off frame; 9, full table, while 32 rows stand; 10, no rank, outside 1 to one past
-    /// the last; 11, overload, at the smallest rank whose row would miss with the new row in place
-    /// (docs/REFUSALS.md); by a bound of accuracy k that row would miss in exact steps too, at speed
-    /// k / (k + 1). A refused call leaves the bench as it was.
+    /// the last; 21, newcomer overload, at its own rank where the new row itself would miss; 11,
+    /// overload, where it would meet, at the smallest rank, with it in place, of a row that stood and
+    /// would miss (docs/REFUSALS.md). By a bound of accuracy k the row at the rank told would miss in
+    /// exact steps too, at speed k / (k + 1). A refused call leaves the bench as it was.
     pub fn admit(&mut self, rank: usize, numbers: Numbers) -> Result<(), Fault>
         ensures does { Does (B.meaning self.old.bound) (Call.Admit rank numbers)
             self.old self.new (as_done result) }
@@ -130,7 +136,7 @@ impl<B: Bound> Bench<B> {
         check_rank(count + 1, rank)?;
         let kept = self.kept.with_row(&self.bound, rank, row);
         if let Some(place) = kept.first_miss() {
-            return Err(Refusal::Overload.at(place as u32 + 1));
+            return Err(overload_of(rank, place + 1).at(place as u32 + 1));
         }
         self.kept = kept;
         Ok(())
@@ -188,5 +194,17 @@ impl<B: Bound> Bench<B> {
             Call::Dismiss(rank) => self.dismiss(rank).into(),
             Call::Inquire(rank) => self.inquire(rank).into(),
         }
+    }
+}
+
+// What an admit at a rank is refused with where the first row that misses, with the newcomer in place, has
+// the rank at: newcomer overload where that is the newcomer, and else overload.
+fn overload_of(rank: usize, at: usize) -> Refusal
+    ensures { result ≡ overload_of rank at }
+{
+    if at == rank {
+        Refusal::NewcomerOverload
+    } else {
+        Refusal::Overload
     }
 }

@@ -26,14 +26,15 @@ pub enum Reply {
     Refused(Fault),
 }
 
-/// Whether a refusal of a bench tells a rank: 11, overload, does, the smallest whose row would miss;
-/// every other one tells 0 (docs/REFUSALS.md).
+/// Whether a refusal of a bench tells a rank: 21, newcomer overload, does, the newcomer's own, and 11,
+/// overload, the smallest at which a row that stood would miss; every other one tells 0
+/// (docs/REFUSALS.md).
 #[tactic(auto, using(crate::proofs::RanksTold::others_tell_zero))]
 pub fn tells_rank(refusal: Refusal) -> bool
     ensures answered { result ≡ tells_rank refusal }
     ensures others { OthersTellZero }
 {
-    matches!(refusal, Refusal::Overload)
+    matches!(refusal, Refusal::NewcomerOverload | Refusal::Overload)
 }
 
 impl From<Result<(), Fault>> for Reply {

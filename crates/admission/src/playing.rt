@@ -8,6 +8,7 @@ ghost use Rattle.admission.specs.Promises.{
   play_refusal,
   StandingRowsMeet,
   OverloadsMiss,
+  FirstMissesDecide,
   FinerAdmits,
   FinerRests,
 };
@@ -44,6 +45,7 @@ pub fn play<B: Bound>(
     ensures stay { StaysOutside 0 (length calls.now) replies.old replies.new }
     ensures meet { StandingRowsMeet (B.meaning bound) }
     ensures overloads { OverloadsMiss (B.meaning bound) }
+    ensures decide { FirstMissesDecide (B.meaning bound) }
     ensures finer_admits { FinerAdmits }
     ensures finer_rests { FinerRests }
 {

@@ -106,4 +106,6 @@ fn a_refusal_by_its_number(rt: HostRuntime) {
     let all = Refusal::all();
     let found = all.iter().find(|refusal| refusal.number() == 11);
     agree(&rt, found.copied(), Some(Refusal::Overload));
+    let found = all.iter().find(|refusal| refusal.number() == 21);
+    agree(&rt, found.copied(), Some(Refusal::NewcomerOverload));
 }

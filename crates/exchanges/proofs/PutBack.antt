@@ -12,11 +12,11 @@ use Rattle.std.proofs.lemmas.List.Elements.{All-weaker}
 use Rattle.rows.specs.declared.frames.FrameNumbers.{FrameNumbers}
 use Rattle.rows.specs.declared.judging.Flaw.TheVariants.{Idle, Cramped, Late, Long, Off}
 use Rattle.rows.specs.declared.refusals.Refusal.TheVariants.{IdleRow, NoWindow, LateDeadline, LongPeriod, OffFrame}
-use Rattle.rows.specs.declared.refusals.Refusal.TheVariants.{NoRank, Overload}
+use Rattle.rows.specs.declared.refusals.Refusal.TheVariants.{NoRank}
 use Rattle.rows.specs.declared.refusals.Fault.{Fault}
 use Rattle.rows.specs.declared.tasks.Numbers.{Numbers}
 use Rattle.rows.specs.declared.tasks.Row.{Row}
-use Rattle.rows.specs.Answers.{Answer, gives, refuses, refuses_at, Check, checked, first_refusal, refusal}
+use Rattle.rows.specs.Answers.{Answer, gives, refuses, Check, checked, first_refusal, refusal}
 use Rattle.rows.specs.Books.{Book, IsJudged, book}
 use Rattle.rows.specs.Counting.{is_on_frame}
 use Rattle.rows.specs.Judging.{plain, has_flaw, frame_flaws, flaw_checks}
@@ -32,10 +32,10 @@ use Rattle.admission.specs.declared.calls.Reply.{Reply}
 use Rattle.admission.specs.declared.calls.Reply.TheVariants.{Found as FoundRow}
 use Rattle.admission.specs.Benches.{Held, bench, Does}
 use Rattle.admission.specs.Promises.{StandsAndMeets}
-use Rattle.admission.specs.Books.{checks_of, step, told, without}
+use Rattle.admission.specs.Books.{checks_of, step, told, with_newcomer, without}
 use Rattle.admission.specs.Replies.{Told, answer_of, as_done, done}
-use Rattle.admission.proofs.Called.{admits, newcomer_is}
-use Rattle.admission.proofs.Steps.{step_answers, step_given, step_refused}
+use Rattle.admission.proofs.Called.{comes_through, newcomer_is}
+use Rattle.admission.proofs.Steps.{admits, step_answers, step_given, step_refused}
 use Rattle.exchanges.specs.Exchanged.{exchange_checks}
 
 -- to inquire leaves the book
@@ -83,17 +83,6 @@ no_flaw h r on =
     ∙ passes_on (has_flaw Late n) LateDeadline 0 _ (le-ltb r.period r.deadline r.timely)
     ∙ passes_on (has_flaw Long n) LongPeriod 0 _ (le-ltb horizon r.period r.near)
     ∙ passes_on (has_flaw (Off h) n) OffFrame 0 (gives n) (ap not on))
-
--- where all findings are met, none is a miss
-no_miss : (fs : List Found) → AllPass is_met fs → position is_miss fs ≡ None
-no_miss fs met =
-    by (position is_miss fs)
-    (places_pass_on is_miss (λ i. i) fs Overload (gives tt)
-    (All-weaker (λ f. is_met f ≡ true) (λ f. is_miss f ≡ false) (λ f. ap not) fs met))
-  where
-    by : (o : Option ℕ) → refuses_at {A = Unit {0}} Overload (option_map (λ i. i) o) (gives tt) ≡ gives tt → o ≡ None
-    by None passes = refl
-    by (Some i) passes = cc
 
 -- the book without the row at a rank
 abbrev pub without_it : ℕ → Book → Book
@@ -146,10 +135,13 @@ module _ (m : Meaning) (b : Book) (rank : ℕ) (r : Row) (there : StandsAt rank 
       )
       in
       let judged = no_flaw b.frame r (on_frame table.on) in
-      let given = admits m lone rank (plain r) r judged (omega (arith, many, table.few)) there.low
-      (omega (arith, many, there.high)) b.rows put_back (no_miss (findings_of m b.frame b.rows) met) in
-      step_given m lone (Admit rank (plain r)) done given
-      ∙ ap (λ rows. (book b.frame rows, gives done)) (newcomer_is m lone rank (plain r) r judged ∙ sym put_back)
+      let passes = comes_through lone rank (plain r) r judged (omega (arith, many, table.few)) there.low
+      (omega (arith, many, there.high)) in
+      let same : with_newcomer rank (plain r) (without rank b.rows) ≡ b.rows =
+      newcomer_is lone rank (plain r) r judged ∙ sym put_back in
+      let all = subst (λ rows. AllPass is_met (findings_of m b.frame rows)) (sym same) met in
+      step_given m lone (Admit rank (plain r)) done (admits m lone rank (plain r) passes all)
+      ∙ ap (λ rows. (book b.frame rows, gives done)) same
 
 -- the refusal of a call that has nothing to tell is that of its checks
 same_refusal : (r : Result (Unit {0}) Fault) (cs : List Check) → answer_of (as_done r) ≡ checked cs done

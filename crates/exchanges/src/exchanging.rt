@@ -13,8 +13,9 @@ use rows::{Fault, Numbers};
 ///
 /// Refused with 10, no rank, at 0 where no row stands at the rank; else as the admission of the new
 /// row is without the old one: at 0 with 4, idle row, 5, no window, 6, late deadline, 7, long
-/// period, or 8, off frame; with 11, overload, at the smallest rank whose row would miss
-/// (docs/REFUSALS.md). A refused call leaves the bench as it was: the old row is admitted back.
+/// period, or 8, off frame; with 21, newcomer overload, at its rank where the new row itself would
+/// miss; with 11, overload, at the smallest rank where another would (docs/REFUSALS.md). A refused
+/// call leaves the bench as it was: the old row is admitted back.
 pub fn exchange<B: Bound>(bench: &mut Bench<B>, rank: usize, numbers: Numbers) -> Result<(), Fault>
     ensures answered { refusal result
         ≡ first_refusal (exchange_checks (B.meaning bench.old.bound) bench.old.book rank numbers) }

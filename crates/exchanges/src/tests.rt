@@ -62,10 +62,39 @@ fn worked_bench(rt: HostRuntime) -> Result<(), Fail> {
     bench.set_frame(FRAME)?;
     bench.admit(1, A)?;
     bench.admit(2, B)?;
-    assert_eq!(rt; bench.admit(3, E), Err(Refusal::Overload.at(3)));
+    assert_eq!(rt; bench.admit(3, E), Err(Refusal::NewcomerOverload.at(3)));
     bench.dismiss(1)?;
     bench.admit(2, E)?;
     assert_eq!(rt; standing(&bench, 2)?, (E, meets(5, 1)));
+    Ok(())
+}
+
+// What a bench by a bound on which B and E stand answers to a row of work 5, at each rank.
+fn crowded<T: Bound + Drop>(bound: T) -> Result<[Result<(), Fault>; 3], Fault> {
+    let mut bench = Bench::new(bound);
+    bench.set_frame(FRAME)?;
+    bench.admit(1, B)?;
+    bench.admit(2, E)?;
+    let crowd = numbers(5, 6, 6, 0);
+    Ok([
+        bench.admit(1, crowd),
+        bench.admit(2, crowd),
+        bench.admit(3, crowd),
+    ])
+}
+
+// Above B and E it meets, and both of them would miss. Below B it misses itself, and E would miss too.
+// Below both it misses alone.
+#[test]
+fn whose_miss_is_told(rt: HostRuntime) -> Result<(), Fail> {
+    let refused = [
+        Err(Refusal::Overload.at(2)),
+        Err(Refusal::NewcomerOverload.at(2)),
+        Err(Refusal::NewcomerOverload.at(3)),
+    ];
+    assert_eq!(rt; crowded(ExactSteps)?, refused);
+    assert_eq!(rt; crowded(LinearTail::new(2)?)?, refused);
+    assert_eq!(rt; crowded(Batches::new(1, 2)?)?, refused);
     Ok(())
 }
 
@@ -110,7 +139,8 @@ fn exchanged_rows(rt: HostRuntime) -> Result<(), Fail> {
     Ok(())
 }
 
-// Below a row of work 5 in the place of A, B would miss. Rows and findings stay.
+// Below a row of work 5 in the place of A, B would miss; in the place of B, a row with a deadline of 4
+// misses itself, below A. Rows and findings stay.
 #[test]
 fn refused_exchanges(rt: HostRuntime) -> Result<(), Fail> {
     let crowd = numbers(5, 6, 6, 0);
@@ -119,6 +149,11 @@ fn refused_exchanges(rt: HostRuntime) -> Result<(), Fail> {
     assert_eq!(rt; answered(ExactSteps, 1, crowd)?, refused);
     assert_eq!(rt; answered(LinearTail::new(2)?, 1, crowd)?, refused);
     assert_eq!(rt; answered(Batches::new(1, 2)?, 1, crowd)?, refused);
+    let hasty = numbers(4, 4, 12, 0);
+    let refused = (Err(Refusal::NewcomerOverload.at(2)), rows);
+    assert_eq!(rt; answered(ExactSteps, 2, hasty)?, refused);
+    assert_eq!(rt; answered(LinearTail::new(2)?, 2, hasty)?, refused);
+    assert_eq!(rt; answered(Batches::new(1, 2)?, 2, hasty)?, refused);
     assert_eq!(rt;
         answered(ExactSteps, 3, E)?,
         (Err(Refusal::NoRank.at(0)), rows)
@@ -147,7 +182,7 @@ fn played_calls(rt: HostRuntime) -> Result<(), Fail> {
         Reply::Done,
         Reply::Refused(Refusal::StandingRows.at(0)),
         Reply::Done,
-        Reply::Refused(Refusal::Overload.at(3)),
+        Reply::Refused(Refusal::NewcomerOverload.at(3)),
         Reply::Refused(Refusal::NoRank.at(0)),
         Reply::Found(B.judge(0)?, meets(3, 1)),
     ];

@@ -56,6 +56,8 @@ worked = record {
   parts_at_5 = refl;
   parts_at_6 = refl;
   corners = corners_of_b;
+  table_g_first = refl;
+  table_g_between = refl;
   bench_answers = calls_come.answered;
   bench_book = calls_come.books;
 }

@@ -1,6 +1,6 @@
 -- A bench by the linear tail of accuracy 2 answers the worked calls as counted by hand.
 use Rattle.std.proofs.Common.{◌≡◌, List, [], ◌∷◌, refl, ap, ◌∙◌}
-use Rattle.rows.specs.declared.refusals.Refusal.TheVariants.{Overload}
+use Rattle.rows.specs.declared.refusals.Refusal.TheVariants.{Overload, NewcomerOverload}
 use Rattle.rows.specs.Answers.{Answer, gives, refuses}
 use Rattle.rows.specs.Books.{Book, book}
 use Rattle.rows.specs.Frames.{frame_of}
@@ -14,7 +14,7 @@ use Rattle.admission.specs.declared.calls.Call.TheVariants.{Frame, Admit, Dismis
 use Rattle.admission.specs.Books.{first_book, step}
 use Rattle.admission.specs.Replies.{Told, done, row_found}
 use Rattle.admission.specs.Runs.{book_from, answers_from}
-use Rattle.worked.specs.Table.{meets, row_a, row_b, row_e, worked_calls}
+use Rattle.worked.specs.Table.{meets, row_a, row_b, row_e, row_g, worked_calls}
 
 -- calls from a book on come to another book, with these answers
 pub record Comes (b : Book) (calls : List Call) (end : Book) (answers : List (Answer Told)) : Type 0 where
@@ -56,7 +56,7 @@ b_admitted : step (linear_tail 2) with_a (Admit 2 (plain row_b)) ≡ (with_ab, g
 unfolding least count first_rest stop points
 b_admitted = rw (row_of_plain row_b, row_of_plain row_b) refl
 
-e_refused : step (linear_tail 2) with_ab (Admit 3 (plain row_e)) ≡ (with_ab, refuses Overload 3)
+e_refused : step (linear_tail 2) with_ab (Admit 3 (plain row_e)) ≡ (with_ab, refuses NewcomerOverload 3)
 unfolding least count first_rest stop points
 e_refused = rw (row_of_plain row_e) refl
 
@@ -71,10 +71,18 @@ e_told : step (linear_tail 2) with_be (Inquire 2) ≡ (with_be, gives (row_found
 unfolding least count first_rest stop points
 e_told = refl
 
+g_crowds : step (linear_tail 2) with_be (Admit 1 (plain row_g)) ≡ (with_be, refuses Overload 2)
+unfolding least count first_rest stop points
+g_crowds = rw (row_of_plain row_g) refl
+
+g_refused : step (linear_tail 2) with_be (Admit 2 (plain row_g)) ≡ (with_be, refuses NewcomerOverload 2)
+unfolding least count first_rest stop points
+g_refused = rw (row_of_plain row_g) refl
+
 -- the answers to the calls, and the book that they come to
 pub calls_come : Comes first_book worked_calls with_be
-    (gives done ∷ gives done ∷ gives done ∷ refuses Overload 3 ∷ gives done ∷ gives done
-    ∷ gives (row_found (plain row_e) (meets 5 1)) ∷ [])
+    (gives done ∷ gives done ∷ gives done ∷ refuses NewcomerOverload 3 ∷ gives done ∷ gives done
+    ∷ gives (row_found (plain row_e) (meets 5 1)) ∷ refuses Overload 2 ∷ refuses NewcomerOverload 2 ∷ [])
 calls_come =
     then frame_set
     (then a_admitted
@@ -82,4 +90,6 @@ calls_come =
     (then e_refused
     (then a_dismissed
     (then e_admitted
-    (then e_told (record { books = refl; answered = refl })))))))
+    (then e_told
+    (then g_crowds
+    (then g_refused (record { books = refl; answered = refl })))))))))

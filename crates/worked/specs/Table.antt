@@ -1,7 +1,7 @@
 -- The worked table: three rows on a frame of 12, and what is found about them and told by a bench, counted by hand.
 use Rattle.std.specs.Prelude.{◌≡◌, ℕ, ◌||◌, List, [], ◌∷◌, Some, None, ◌==◌}
 use Rattle.std.proofs.Common.{lit≤}
-use Rattle.rows.specs.declared.refusals.Refusal.TheVariants.{Overload}
+use Rattle.rows.specs.declared.refusals.Refusal.TheVariants.{Overload, NewcomerOverload}
 use Rattle.rows.specs.declared.tasks.Row.{Row}
 use Rattle.rows.specs.Answers.{gives, refuses}
 use Rattle.rows.specs.Books.{book}
@@ -58,6 +58,19 @@ row_e = record {
   near = lit≤ tt;
 }
 
+-- task G
+abbrev pub row_g : Row
+row_g = record {
+  work = 5;
+  deadline = 6;
+  period = 6;
+  jitter = 0;
+  busy = lit≤ tt;
+  roomy = lit≤ tt;
+  timely = lit≤ tt;
+  near = lit≤ tt;
+}
+
 -- the finding about a row below others on the frame of 12
 abbrev pub found : Meaning → Row → List Row → Found
 found m r above = row_finding m (frame_of 12) r above
@@ -70,7 +83,8 @@ meets rest points = record { rest = Some rest; points = points }
 abbrev pub misses : ℕ → Found
 misses points = record { rest = None; points = points }
 
--- calls to a bench: the frame, A and B in ranks 1 and 2, E below them; then A leaves, E comes below B, and is asked for
+-- calls to a bench: the frame, A and B in ranks 1 and 2, E below them; then A leaves, E comes below B, and is asked for;
+-- then G above both, and between them
 abbrev pub worked_calls : List Call
 worked_calls =
     Frame (frame_of 12)
@@ -80,6 +94,8 @@ worked_calls =
     ∷ Dismiss 1
     ∷ Admit 2 (plain row_e)
     ∷ Inquire 2
+    ∷ Admit 1 (plain row_g)
+    ∷ Admit 2 (plain row_g)
     ∷ []
 
 -- what was counted by hand
@@ -106,14 +122,22 @@ pub record Worked : Type 0 where
   pub parts_at_6 : (linear_tail 2).amount 12 row_b 6 ≡ 52
   -- the corners of B under the tail of accuracy 3 are 5 and 11
   pub corners : (t : ℕ) → (linear_tail 3).is_corner row_b t ≡ (t == 5 || t == 11)
-  -- a bench by the tail of accuracy 2 refuses E below A and B, and admits it once A has left: its answers, and its book
+  -- with G above B and E, it meets and both of them miss; with G between them, it misses itself, and E does
+  pub table_g_first : findings_of (linear_tail 2) (frame_of 12) (row_g ∷ row_b ∷ row_e ∷ [])
+      ≡ meets 5 1 ∷ misses 1 ∷ misses 3 ∷ []
+  pub table_g_between : findings_of (linear_tail 2) (frame_of 12) (row_b ∷ row_g ∷ row_e ∷ [])
+      ≡ meets 2 1 ∷ misses 2 ∷ misses 3 ∷ []
+  -- a bench by the tail of accuracy 2 refuses E below A and B, where E is the one that misses, and admits it once A has
+  -- left; it refuses G for B, and then for itself: its answers, and its book
   pub bench_answers : answers_to (linear_tail 2) worked_calls
       ≡ gives done
       ∷ gives done
       ∷ gives done
-      ∷ refuses Overload 3
+      ∷ refuses NewcomerOverload 3
       ∷ gives done
       ∷ gives done
       ∷ gives (row_found (plain row_e) (meets 5 1))
+      ∷ refuses Overload 2
+      ∷ refuses NewcomerOverload 2
       ∷ []
   pub bench_book : book_after (linear_tail 2) worked_calls ≡ book (frame_of 12) (row_b ∷ row_e ∷ [])

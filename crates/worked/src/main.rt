@@ -1,5 +1,5 @@
 //! The worked table, surveyed in exact steps and by linear tails, counted both ways, and
-//! printed, and a bench that refuses a row and admits it later.
+//! printed, and a bench that refuses a row and admits it later, and refuses one for two reasons.
 #![tactic(auto)]
 
 mod printing;

@@ -162,7 +162,7 @@ pub(crate) fn print_bench<B: Bound + Drop>(
     println!(rt; "")?;
     println!(rt; "bench by the {title}")?;
     let calls = worked_calls();
-    let mut replies = [Reply::Done; 7];
+    let mut replies = [Reply::Done; 9];
     play(bound, &calls, &mut replies)?;
     for (call, reply) in calls.iter().zip(replies.iter()) {
         print_call(rt, call)?;

@@ -6,7 +6,7 @@ use Rattle.admission.specs.Runs.{answers_to}
 use Rattle.admission.proofs.Played.{becomes_more, replies_more}
 use Rattle.admission.proofs.Runs.{length_answers_to}
 use Rattle.admission.proofs.Finer.{finer_admits, finer_rests}
-use Rattle.admission.proofs.Overloads.{overloads_miss}
+use Rattle.admission.proofs.Overloads.{first_misses_decide, overloads_miss}
 use Rattle.admission.proofs.Standing.{standing_rows_meet}
 use Rattle.admission.proofs.playing.play.Goals as goal
 
@@ -17,6 +17,9 @@ returns-then-replies-calls-clause-meet g c =
 pub returns-then-replies-calls-clause-overloads : goal.returns-then-replies-calls-clause-overloads
 returns-then-replies-calls-clause-overloads g c =
     overloads_miss (g.B.Bound.meaning c.args.bound) (g.met.B.Bound.lawful c.args.bound)
+
+pub returns-then-replies-calls-clause-decide : goal.returns-then-replies-calls-clause-decide
+returns-then-replies-calls-clause-decide g c = first_misses_decide (g.B.Bound.meaning c.args.bound)
 
 pub returns-then-replies-calls-clause-finer_admits : goal.returns-then-replies-calls-clause-finer_admits
 returns-then-replies-calls-clause-finer_admits g c = finer_admits
@@ -29,6 +32,9 @@ returns-clause-meet g c = standing_rows_meet (g.B.Bound.meaning c.args.bound) (g
 
 pub returns-clause-overloads : goal.returns-clause-overloads
 returns-clause-overloads g c = overloads_miss (g.B.Bound.meaning c.args.bound) (g.met.B.Bound.lawful c.args.bound)
+
+pub returns-clause-decide : goal.returns-clause-decide
+returns-clause-decide g c = first_misses_decide (g.B.Bound.meaning c.args.bound)
 
 pub returns-clause-finer_admits : goal.returns-clause-finer_admits
 returns-clause-finer_admits g c = finer_admits

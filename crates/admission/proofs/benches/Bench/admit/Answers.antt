@@ -1,4 +1,4 @@
-use Rattle.std.proofs.Common.{sym, ◌∙◌, subst, rules}
+use Rattle.std.proofs.Common.{◌+◌, sym, ap, ◌∙◌, subst, rules}
 use Rattle.admission.specs.declared.calls.Call.TheVariants.{Admit}
 use Rattle.admission.specs.declared.calls.Reply.TheVariants.{Done, Refused}
 use Rattle.admission.specs.Benches.{Does}
@@ -39,7 +39,8 @@ returns-in-Some-clause-does g c =
     subst (λ b. Does (g.B.Bound.meaning b.bound) (Admit c.args.rank c.args.numbers) b b (Refused c.at-in-Some.result))
     c.self.view_is
     (subst (λ x. Does (g.B.Bound.meaning s.bound) (Admit c.args.rank c.args.numbers) (seen s.bound s.kept)
-    (seen s.bound s.kept) (Refused x)) (sym c.at-in-Some.ensures)
+    (seen s.bound s.kept) (Refused x))
+    (sym (c.at-in-Some.ensures ∙ ap (λ r. record { refusal = r; at = c.in-Some.place + 1 }) c.overload_of.ensures))
     (overloads_so
     (g.B.Bound.meaning s.bound) s.bound s.kept c.self.invariant c.args.rank c.args.numbers c.in_ok-row.row enters
     new.result new.ensures.counted new.ensures.table c.in-Some.place (sym c.first_miss.ensures ∙ c.in-Some.is)))
