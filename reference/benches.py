@@ -33,6 +33,7 @@ from refusals import (  # noqa: E402
     BAD_ACCURACY,
     BAD_FRAME,
     FULL_TABLE,
+    NEWCOMER_OVERLOAD,
     NO_RANK,
     OVERLOAD,
     STANDING_ROWS,
@@ -60,10 +61,19 @@ WIDEST = 20_000
 # --- The bench ---------------------------------------------------------------------------------------------
 
 
+# The refusals that tell a rank, and not 0.
+TELL_RANKS = (NEWCOMER_OVERLOAD, OVERLOAD)
+
+
+def misses(frame, bound, rows, rank):
+    """Whether the row at a rank misses."""
+    return first_rest(frame, bound, rows[rank - 1], rows[:rank - 1]) is None
+
+
 def missing_ranks(frame, bound, rows, first=1):
     """The ranks from `first` on whose rows miss, the smallest first."""
     for rank in range(first, len(rows) + 1):
-        if first_rest(frame, bound, rows[rank - 1], rows[:rank - 1]) is None:
+        if misses(frame, bound, rows, rank):
             yield rank
 
 
@@ -100,7 +110,9 @@ class Bench:
         if rank < 1 or rank > len(self.rows) + 1:
             return ('refused', NO_RANK, 0)
         rows = put_in(self.rows, rank, (work, deadline, period, jitter))
-        for missing in missing_ranks(self.on, self.bound, rows, rank):
+        if misses(self.on, self.bound, rows, rank):
+            return ('refused', NEWCOMER_OVERLOAD, rank)
+        for missing in missing_ranks(self.on, self.bound, rows, rank + 1):
             return ('refused', OVERLOAD, missing)
         self.rows = rows
         return DONE
@@ -129,7 +141,7 @@ def answer_text(answer):
         return 'done'
     if answer[0] == 'refused':
         _, number, position = answer
-        return refused(number) + (f' at rank {position}' if number == OVERLOAD else '')
+        return refused(number) + (f' at rank {position}' if number in TELL_RANKS else '')
     _, row, (rest, points) = answer
     numbers = ' '.join(str(number) for number in row)
     verdict = 'misses' if rest is None else f'meets {rest}'
@@ -252,7 +264,7 @@ class HeldBench(Bench):
     """A bench that is held to what docs/RULES.md says after each call."""
 
     def __init__(self, bound):
-        """A new bench; it also notes the refusals for overload: (newcomer's rank, rank told, how many miss)."""
+        """A new bench; it also notes the refusals for a miss: (newcomer's rank, rank told, how many miss)."""
         super().__init__(bound)
         self.overloads = []
 
@@ -271,13 +283,15 @@ class HeldBench(Bench):
         return self.held(super().frame, frame)
 
     def admit(self, rank, *row):
-        """Puts a row in at a rank. A row told to miss is no row above, and misses at the lower speed too."""
+        """Puts a row in at a rank. The row told is the first of all to miss, and misses at the lower speed too; it
+        is no row above the newcomer, and the refusal is the newcomer's own just where it is the newcomer."""
         answer = self.held(super().admit, rank, *row)
-        if answer[1:2] == (OVERLOAD,):
+        if answer[0] == 'refused' and answer[1] in TELL_RANKS:
             rows = put_in(self.rows, rank, row)
             missing = list(missing_ranks(self.on, self.bound, rows))
             told = answer[2]
             assert told == missing[0] >= rank
+            assert (answer[1] == NEWCOMER_OVERLOAD) == (told == rank)
             if window(rows[told - 1]) <= WIDEST:
                 assert slow_rest(rows[told - 1], rows[:told - 1], self.bound.accuracy) is None
             self.overloads.append((rank, told, len(missing)))

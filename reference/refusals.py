@@ -28,6 +28,7 @@ BAD_FINDING = 17
 LOOSE_BYTES = 18
 SHORT_BUFFER = 19
 UNKNOWN_BOUND = 20
+NEWCOMER_OVERLOAD = 21
 
 WORDS = {
     BAD_FRAME: 'bad frame',
@@ -50,6 +51,7 @@ WORDS = {
     LOOSE_BYTES: 'loose bytes',
     SHORT_BUFFER: 'short buffer',
     UNKNOWN_BOUND: 'unknown bound',
+    NEWCOMER_OVERLOAD: 'newcomer overload',
 }
 
 

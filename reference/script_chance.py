@@ -59,7 +59,7 @@ def put_in_tight(script, setting):
         script.admit(rank, row)
         return
     if script.source.below(3) and rest > work:
-        script.admit(rank, (work, rest + jitter - 1, period, jitter), f'refused 11 overload at rank {rank}')
+        script.admit(rank, (work, rest + jitter - 1, period, jitter), f'refused 21 newcomer overload at rank {rank}')
     if script.admit(rank, (work, rest + jitter, period, jitter)) == 'done':
         look(script, rank)
 

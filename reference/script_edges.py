@@ -7,6 +7,7 @@ from leaves import HORIZON
 from scripts import HALF, TOP, Script
 
 FIRST, SECOND, THIRD = (1, 4, 4, 0), (2, 6, 6, 1), (3, 12, 12, 0)
+CROWD = (5, 6, 6, 0)
 
 # The script of docs/PROGRAMS.md, and what is written for it.
 PROGRAMS_SCRIPT = b"""\
@@ -27,7 +28,7 @@ PROGRAMS_ANSWERS = """\
 done
 done
 done
-refused 11 overload at rank 3
+refused 21 newcomer overload at rank 3
 done
 done
 row 3 12 12 0 meets 5 points 1
@@ -68,7 +69,7 @@ def worked_table(source, accuracy):
         script.frame(12, 'done')
         for rank, (row, finding) in enumerate(zip((FIRST, SECOND, THIRD), findings), start=1):
             if finding is None:
-                script.admit(rank, row, f'refused 11 overload at rank {rank}')
+                script.admit(rank, row, f'refused 21 newcomer overload at rank {rank}')
                 script.inquire(rank, 'refused 10 no rank')
                 continue
             script.admit(rank, row, 'done')
@@ -92,12 +93,16 @@ def bench_of_rules(source):
     for _ in range(3):
         script.admit(1, FIRST, 'done')
         script.admit(2, SECOND, 'done')
-        script.admit(3, THIRD, 'refused 11 overload at rank 3')
+        script.admit(3, THIRD, 'refused 21 newcomer overload at rank 3')
         script.sweep()
         script.dismiss(1, 'done')
         script.inquire(1, told(SECOND, 2, 1))
         script.admit(2, THIRD, 'done')
         script.inquire(2, told(THIRD, 5, 1))
+        script.admit(1, CROWD, 'refused 11 overload at rank 2')  # rows 2 and 3 would both miss
+        script.admit(2, CROWD, 'refused 21 newcomer overload at rank 2')  # and row 3
+        script.admit(3, CROWD, 'refused 21 newcomer overload at rank 3')
+        script.sweep()
         script.frame(12, 'refused 2 standing rows')
         script.dismiss(2, 'done')
         script.dismiss(1, 'done')
@@ -169,7 +174,7 @@ def flawed_rows(source, accuracy, count):
 
 
 def pairs_of_refusals(source, accuracy):
-    """8 to 11, alone and each two of them; and the two of a frame."""
+    """8 to 10, 21 and 11, alone and each two of them; and the two of a frame."""
     script = Script(source, accuracy)
     script.frame(96, 'done')
     script.admit(1, (96, 480, 480, 0), 8)
@@ -177,23 +182,26 @@ def pairs_of_refusals(source, accuracy):
         script.admit(rank, (1, 96, 96, 0), 'done')
         if rank in (1, 2, 31):
             script.admit(1, WHOLE, 'refused 11 overload at rank 2')
-            script.admit(rank + 1, WHOLE, f'refused 11 overload at rank {rank + 1}')
+            script.admit(rank + 1, WHOLE, f'refused 21 newcomer overload at rank {rank + 1}')
+            if rank > 1:
+                script.admit(2, WHOLE, 'refused 21 newcomer overload at rank 2')  # and 11
             for outside in (0, rank + 2, TOP):
                 script.admit(outside, (1, 96, 96, 0), 10)
-                script.admit(outside, WHOLE, 10)  # and 11
+                script.admit(outside, WHOLE, 10)  # and 21 or 11
                 script.admit(outside, (5, 5, 5, 0), 8)  # and 10
             script.admit(1, (5, 5, 5, 0), 8)  # and 11
+            script.admit(rank + 1, (5, 5, 5, 0), 8)  # and 21
             script.admit(1, (96, HORIZON + 1, HORIZON + 1, 0), 7)  # and 11
             script.admit(1, (6, 6, 4, 0), 6)  # and 11
             script.admit(1, (97, 96, 96, 0), 5)  # and 11
-            script.admit(rank + 1, (0, 1, 96, 0), 4)  # and 11 where two or more rows stand above
+            script.admit(rank + 1, (0, 1, 96, 0), 4)  # and 21 where two or more rows stand above
             for frame in (1, 96, HORIZON):
                 script.frame(frame, 2)
             for frame in (0, HORIZON + 1, TOP):
                 script.frame(frame, 1)  # and 2
     for rank in (1, 32, 33):
         script.admit(rank, (1, 96, 96, 0), 9)
-        script.admit(rank, WHOLE, 9)  # and 11
+        script.admit(rank, WHOLE, 9)  # and 11, or 21 below another
         script.admit(rank, (5, 5, 5, 0), 8)  # and 9
     for rank in (0, 34, TOP):
         script.admit(rank, (1, 96, 96, 0), 9)  # and 10
@@ -245,7 +253,7 @@ def frames_at_the_edge(source, accuracy):
         script.inquire(1, f'row {work} {frame} {frame} 0 meets {work} points 1')
         script.frame(0, 'refused 1 bad frame')  # and 2
         script.frame(frame, 'refused 2 standing rows')
-        script.admit(2, (1, 1, 1, 0), 'refused 11 overload at rank 2')
+        script.admit(2, (1, 1, 1, 0), 'refused 21 newcomer overload at rank 2')
         script.dismiss(1, 'done')
         script.admit(1, (1, frame, frame, frame - 1), 'done')
         script.inquire(1, f'row 1 {frame} {frame} {frame - 1} meets 1 points 1')
@@ -281,8 +289,8 @@ def just_meets(source):
     script.admit(1, FIRST, 'done')
     script.admit(2, SECOND, 'done')
     for _ in range(6):
-        script.admit(3, (3, rest - 1, 12, 0), 'refused 11 overload at rank 3')
-        script.admit(3, (3, 12, 12, 12 - rest + 1), 'refused 11 overload at rank 3')
+        script.admit(3, (3, rest - 1, 12, 0), 'refused 21 newcomer overload at rank 3')
+        script.admit(3, (3, 12, 12, 12 - rest + 1), 'refused 21 newcomer overload at rank 3')
         script.admit(3, (3, rest, 12, 0), 'done')
         script.inquire(3)
         script.dismiss(3, 'done')

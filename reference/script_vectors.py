@@ -21,7 +21,7 @@ import script_edges  # noqa: E402
 import script_lines  # noqa: E402
 from benches import lines_of  # noqa: E402
 from chance import Source, work_out  # noqa: E402
-from refusals import BAD_FRAME, OVERLOAD  # noqa: E402
+from refusals import BAD_FRAME, NEWCOMER_OVERLOAD, OVERLOAD  # noqa: E402
 from scripts import MOST_CALLS  # noqa: E402
 
 SEED = 20_240_303_000  # and the number of the script
@@ -106,7 +106,7 @@ def add_chance():
 
 
 def made(case):
-    """A script with what is written for it, and what its bench noted of its refusals for overload."""
+    """A script with what is written for it, and what its bench noted of its refusals for a miss."""
     number, recipe, given, _ = case
     script = recipe(Source(SEED + number), *given)
     assert len(script.answers) <= MOST_CALLS
@@ -130,14 +130,16 @@ def check_spread(scripts):
         for line in lines_of(written):
             kind = kind_of(line.decode('ascii'))
             counts[kind] = counts.get(kind, 0) + 1
-    refused = [f'refused {number}' for number in range(BAD_FRAME, OVERLOAD + 1)]  # all that a bench can refuse
+    # All that a bench can refuse.
+    refused = [f'refused {number}' for number in (*range(BAD_FRAME, OVERLOAD + 1), NEWCOMER_OVERLOAD)]
     kinds = ['done', 'row meets', 'not a call'] + refused
     assert sorted(counts) == sorted(kinds) and min(counts.values()) >= 60, counts
     overloads = [overload for _, _, noted in scripts for overload in noted]
-    assert sum(told == rank for rank, told, _ in overloads) >= 500  # the newcomer misses
+    assert sum(told == rank for rank, told, _ in overloads) >= 1000  # the newcomer misses
     assert sum(told == rank + 1 for rank, told, _ in overloads) >= 500  # the row below it
     assert sum(told > rank + 1 for rank, told, _ in overloads) >= 200  # one further down
-    assert sum(missing > 1 for _, _, missing in overloads) >= 500  # several, of which the smallest rank is told
+    assert sum(told == rank and missing > 1 for rank, told, missing in overloads) >= 150  # it, and rows that stood too
+    assert sum(told > rank and missing > 1 for rank, told, missing in overloads) >= 500  # several that stood
 
 
 def main():

@@ -854,7 +854,7 @@ SCRIPT_TOLD = """\
 done
 done
 done
-refused 11 overload at rank 3
+refused 21 newcomer overload at rank 3
 done
 done
 row 3 12 12 0 meets 5 points 1

@@ -40,7 +40,7 @@ findings_with m b rank n = findings_of m b.frame (with_newcomer rank n b.rows)
 abbrev pub entry_checks : Book → ℕ → Numbers → List Check
 entry_checks b rank n = flaw_checks (frame_flaws b.frame) n 0 ++ place_checks (length b.rows) rank
 
--- a finding that is a miss stands at a rank
+-- whether a finding that is a miss stands at a rank
 abbrev pub misses_at : ℕ → List Found → Bool
 misses_at rank fs = unwrap_or (option_map is_miss (at_rank rank fs)) false
 
