@@ -1,24 +1,24 @@
 -- What a call of the code does, by what it found on its way.
-use Rattle.std.proofs.Common.{◌≡◌, ◌≢◌, ℕ, zero, suc, ◌+◌, ◌-◌, ◌<◌, ◌≤◌, Bool, true, false, not, leb, List, [], ◌∷◌}
+use Rattle.std.proofs.Common.{◌≡◌, ◌≢◌, ℕ, suc, ◌+◌, ◌-◌, ◌≤◌, true, false, not, leb, List, [], ◌∷◌}
 use Rattle.std.proofs.Common.{◌++◌, length, get_or, take, drop, Some, None, refl, sym, ap, ap₂, ◌∙◌, subst, arith}
 use Rattle.std.proofs.Common.{position}
 use Rattle.std.specs.Prelude.{nat_lt}
-use Rattle.std.specs.List.{All, AllPass, insert, remove}
+use Rattle.std.specs.List.{AllPass, insert, remove}
 use Rattle.std.specs.Option.{option_map, unwrap_or}
 use Rattle.std.proofs.lemmas.Bool.{and_from, le-leb, lt-leb, not-false}
 use Rattle.std.proofs.lemmas.List.{get_or-map, length-map, nil_from_length}
 use Rattle.std.proofs.lemmas.List.Elements.{All-weaker}
 use Rattle.rows.specs.declared.frames.FrameNumbers.{FrameNumbers}
 use Rattle.rows.specs.declared.refusals.Fault.{Fault}
-use Rattle.rows.specs.declared.refusals.Refusal.TheVariants.{StandingRows, Overload, FullTable, NoRank}
+use Rattle.rows.specs.declared.refusals.Refusal.TheVariants.{StandingRows, FullTable, NoRank}
 use Rattle.rows.specs.declared.tasks.Numbers.{Numbers}
 use Rattle.rows.specs.declared.tasks.Row.{Row}
-use Rattle.rows.specs.Answers.{check, checked, first_refusal, gives, refuses, refuses_at, Passes}
+use Rattle.rows.specs.Answers.{check, checked, first_refusal, gives, refuses, Passes}
 use Rattle.rows.specs.Frames.{frame_checks}
 use Rattle.rows.specs.Judging.{plain, rows_of, frame_flaws, flaw_checks}
-use Rattle.rows.specs.Lists.{at_rank, first_of}
+use Rattle.rows.specs.Lists.{at_rank}
 use Rattle.rows.specs.Times.{most_rows}
-use Rattle.rows.proofs.Checks.{given_is, gives_any, passed_first, passes_on, places_pass}
+use Rattle.rows.proofs.Checks.{given_is, gives_any, passed_first, passes_on}
 use Rattle.rows.proofs.SameRow.{rows_of_plain}
 use Rattle.bounds.specs.Meaning.{Meaning}
 use Rattle.rows.specs.declared.verdicts.Finding.{Finding}
@@ -39,6 +39,7 @@ use Rattle.admission.specs.Benches.{Held, bench, Does, IsCounted, Keeps, kept_fi
 use Rattle.admission.specs.Books.{checks_of, entry_checks, once_done, told, with_newcomer, without}
 use Rattle.admission.specs.Promises.{by_first_miss, overload_of}
 use Rattle.admission.specs.Replies.{Told, answer_of, done, row_found}
+use Rattle.admission.proofs.Places.{nowhere, rank_place}
 use Rattle.admission.proofs.Steps.{Sound, first_miss, step_given, step_refused}
 
 -- what is seen of a bench by a bound, with what it keeps
@@ -82,12 +83,6 @@ does_so m c old new reply x given replied becomes =
 is_within : (last rank : ℕ) → 1 ≤ rank → rank ≤ last → not (is_rank last rank) ≡ false
 is_within last rank low high =
     ap not (and_from (leb 1 rank) (leb rank last) (le-leb 1 rank low) (le-leb rank last high))
-
--- where no place has it, no element has
-pub nowhere : {X : Type 0} (wrong : X → Bool) (xs : List X) → position wrong xs ≡ None → All (λ x. wrong x ≡ false) xs
-nowhere wrong xs none =
-    (places_pass {A = Unit {0}} wrong (λ i. i) xs Overload tt (gives tt)
-    (ap (λ o. refuses_at {A = Unit {0}} Overload (option_map (λ i. i) o) (gives tt)) (sym none))).0
 
 -- findings none of which is a miss are all met
 pub all_meet : (fs : List Found) → position is_miss fs ≡ None → AllPass is_met fs
@@ -146,17 +141,6 @@ module _ {B : Type 0} (m : Meaning) (bound : B) (k new : Kept) where
       (gives_any (rank_checks (length k.table.rows) rank) tt tt passes done) refl
       (kept_is m bound new keeps
       ∙ ap (bench m bound) (table ∙ ap (book k.table.frame) (without_is rank k.table.rows low)))
-
--- the element at a rank is that at the place before it
-at_place : {X : Type 0} (xs : List X) (i : ℕ) (d : X) → i < length xs → first_of (drop i xs) ≡ Some (get_or xs i d)
-at_place [] i d within = absurd (omega arith)
-at_place (x ∷ xs) zero d within = refl
-at_place (x ∷ xs) (suc i) d within = at_place xs i d (omega arith)
-
-rank_place : {X : Type 0} (xs : List X) (rank : ℕ) (d : X) → 1 ≤ rank → rank ≤ length xs
-    → at_rank rank xs ≡ Some (get_or xs (rank - 1) d)
-rank_place xs rank d low high = let up : suc (rank - 1) ≡ rank = omega arith in
-    subst (λ n. at_rank n xs ≡ Some (get_or xs (rank - 1) d)) up (at_place xs (rank - 1) d (omega arith))
 
 -- what is kept at a place is what inquiring at its rank tells
 module _ (m : Meaning) (k : Kept) (keeps : Keeps m k) (rank : ℕ) (low : 1 ≤ rank) (high : rank ≤ length k.table.rows)

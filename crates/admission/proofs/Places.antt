@@ -1,13 +1,14 @@
 -- An element of a list at a rank: the list without it, and the first place of a list that passes a test.
-use Rattle.std.proofs.Common.{◌≡◌, ℕ, suc, ◌+◌, ◌-◌, ◌<◌, ◌≤◌, Bool, true, false, cond, ltb, List, [], ◌∷◌, ◌++◌}
-use Rattle.std.proofs.Common.{length, take, drop, Some, None, Option, refl, sym, ap, ap₂, ◌∙◌, subst, arith, position}
+use Rattle.std.proofs.Common.{◌≡◌, ℕ, zero, suc, ◌+◌, ◌-◌, ◌<◌, ◌≤◌, Bool, true, false, cond, ltb, List, [], ◌∷◌, ◌++◌}
+use Rattle.std.proofs.Common.{length, take, drop, get_or, Some, None, Option, refl, sym, ap, ap₂, ◌∙◌, subst, arith, position}
 use Rattle.std.specs.List.{All, position_or_len}
 use Rattle.std.specs.Option.{option_map}
 use Rattle.std.proofs.Math.Path.{subst₂}
 use Rattle.std.proofs.Math.Seq.{drop-append-add}
 use Rattle.std.proofs.lemmas.Bool.{cond-false, cond-true, le-ltb, lt-ltb, ltb-false, ltb-true}
 use Rattle.std.proofs.lemmas.List.{append_assoc, drop_at, take_at, length-append}
-use Rattle.std.proofs.lemmas.List.Elements.{All-append, All-cons, All-drop, All-head, All-tail, All-take}
+use Rattle.std.proofs.lemmas.List.Elements.{All-append, All-cons, All-drop, All-head, All-nil, All-tail}
+use Rattle.std.proofs.lemmas.List.Elements.{All-take}
 use Rattle.rows.specs.Lists.{at_rank, first_of}
 use Rattle.admission.specs.Books.{without}
 
@@ -18,6 +19,18 @@ at_there rank all xs ys x low place split =
     let up : suc (rank - 1) ≡ rank = omega arith in
     subst (λ n. at_rank n all ≡ Some x) up
     (ap (λ zs. first_of (drop (rank - 1) zs)) split ∙ ap first_of (drop_at xs (x ∷ ys) (rank - 1) place))
+
+-- the element at a rank is that at the place before it
+at_place : {X : Type 0} (xs : List X) (i : ℕ) (d : X) → i < length xs → first_of (drop i xs) ≡ Some (get_or xs i d)
+at_place [] i d within = absurd (omega arith)
+at_place (x ∷ xs) zero d within = refl
+at_place (x ∷ xs) (suc i) d within = at_place xs i d (omega arith)
+
+-- so is the one at a rank
+pub rank_place : {X : Type 0} (xs : List X) (rank : ℕ) (d : X) → 1 ≤ rank → rank ≤ length xs
+    → at_rank rank xs ≡ Some (get_or xs (rank - 1) d)
+rank_place xs rank d low high = let up : suc (rank - 1) ≡ rank = omega arith in
+    subst (λ n. at_rank n xs ≡ Some (get_or xs (rank - 1) d)) up (at_place xs (rank - 1) d (omega arith))
 
 -- without it the others are left
 pub without_there : {X : Type 0} (rank : ℕ) (all xs ys : List X) (x : X) → 1 ≤ rank → length xs ≡ rank - 1
@@ -99,3 +112,24 @@ position_after {X = X} p (x ∷ xs) ys fail =
     position_next p x (xs ++ ys) (All-head Fails x xs fail)
     ∙ ap (option_map suc) (position_after p xs ys (All-tail Fails x xs fail))
     ∙ counted_on (λ i. length xs + i) suc (λ i. length (x ∷ xs) + i) (λ i. omega arith) (position p ys)
+
+-- there is not both a place and none
+not_both : (o : Option ℕ) → o ≡ Some 0 → o ≡ None → ⊥
+not_both None is none = cc
+not_both (Some i) is none = cc
+
+-- no place counted on is no place
+none_on : (o : Option ℕ) → option_map suc o ≡ None → o ≡ None
+none_on None none = refl
+none_on (Some i) none = cc
+
+-- where no place passes, no element does
+pub nowhere : {X : Type 0} (p : X → Bool) (xs : List X) → position p xs ≡ None → All (λ x. p x ≡ false) xs
+nowhere p [] none = All-nil (λ x. p x ≡ false)
+nowhere p (x ∷ xs) none =
+    by (p x) refl
+    (λ fails. nowhere p xs (none_on (position p xs) (sym (position_next p x xs fails) ∙ none)))
+  where
+    by : (b : Bool) → p x ≡ b → (p x ≡ false → All (λ y. p y ≡ false) xs) → All (λ y. p y ≡ false) (x ∷ xs)
+    by true passes later = absurd (not_both (position p (x ∷ xs)) (position_here p x xs passes) none)
+    by false fails later = All-cons (λ y. p y ≡ false) x xs fails (later fails)
