@@ -3,5 +3,6 @@ pub mod Fitting
 pub mod Marking
 pub mod Quotients
 pub mod Rises
+pub mod StairWalks
 pub mod SameTail
 pub mod Numbered

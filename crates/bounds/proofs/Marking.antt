@@ -130,6 +130,10 @@ module _ (p : ℕ → Bool) (e : ℕ) where
   pub least_past_none : (s u : ℕ) → ((i : ℕ) → s < i → i ≤ e → p i ≡ false) → s ≤ u → None ≡ least p (e - u) (u + 1)
   least_past_none s u none from = sym (least_none p (e - u) u (λ i low high. none i (omega arith) (omega arith)))
 
+-- no instant past u is up to e, where u is the later one
+pub least_over : (p : ℕ → Bool) (e u : ℕ) → e ≤ u → None ≡ least p (e - u) (u + 1)
+least_over p e u past = least_past_none p e u u (λ i low high. absurd (omega arith)) (omega arith)
+
 -- where instants past u have p up to e just where they have q up to d, the least ones past u are the same
 pub least_same : (p q : ℕ → Bool) (e d u : ℕ) → ((i : ℕ) → u < i → up_to e p i ≡ up_to d q i)
     → least p (e - u) (u + 1) ≡ least q (d - u) (u + 1)

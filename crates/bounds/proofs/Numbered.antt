@@ -3,10 +3,11 @@ use Rattle.std.proofs.Common.{◌≡◌, ℕ, ◌==◌, Bool, true, false, List,
 use Rattle.std.proofs.Common.{◌∙◌}
 use Rattle.std.proofs.lemmas.Bool.{eqb-true}
 use Rattle.bounds.specs.declared.families.Family.{Family}
-use Rattle.bounds.specs.declared.families.Family.TheVariants.{ExactSteps, LinearTail}
+use Rattle.bounds.specs.declared.families.Family.TheVariants.{ExactSteps, LinearTail, Staircase}
 use Rattle.bounds.specs.declared.families.TheConstants.Family.{ALL}
 use Rattle.bounds.specs.declared.supplied.Supplied.{Supplied}
 use Rattle.bounds.specs.declared.supplied.Supplied.TheVariants.{ExactSteps as exact, LinearTail as tail}
+use Rattle.bounds.specs.declared.supplied.Supplied.TheVariants.{Staircase as stairs}
 use Rattle.bounds.specs.Families.{family_meaning, family_number, family_of_number, supplied_plain}
 use Rattle.bounds.specs.Values.{meaning_of}
 
@@ -14,6 +15,7 @@ use Rattle.bounds.specs.Values.{meaning_of}
 pub numbered : (f : Family) → family_of_number (family_number f) ≡ Some f
 numbered ExactSteps = refl
 numbered LinearTail = refl
+numbered Staircase = refl
 
 -- what is found of a list passes the test
 found : {X : Type 0} (p : X → Bool) (xs : List X) (y : X) → find p xs ≡ Some y → p y ≡ true
@@ -33,3 +35,4 @@ number_of_kind n f named = eqb-true (family_number f) n (found (λ f. family_num
 pub means_plain : (b : Supplied) → meaning_of b ≡ family_meaning (supplied_plain b).0 (supplied_plain b).1
 means_plain exact = refl
 means_plain (tail t) = refl
+means_plain (stairs s) = refl

@@ -1,13 +1,7 @@
 -- A number divided by a period: by a product and one correction.
-use Rattle.std.proofs.Common.{◌≡◌, ℕ, ◌+◌, ◌-◌, ◌*◌, ◌/◌, ◌<◌, ◌≤◌, ap, ◌∙◌, sym, arith}
-use Rattle.std.proofs.lemmas.Nat.{mul-le, div-add-mod', div-mul-add, mod_below}
-
--- q is the quotient of x by p where x lies from q × p on, and before (q + 1) × p
-quotient_is : (x p q : ℕ) → q * p ≤ x → x < (q + 1) * p → q ≡ x / p
-quotient_is x p q low high =
-    let split : q * p + (x - q * p) ≡ x = omega arith in
-    let whole : p * q + (x - q * p) ≡ x = omega arith in
-    sym (ap (λ n. n / p) (sym split) ∙ div-mul-add q p (x - q * p) (omega arith))
+use Rattle.std.proofs.Common.{◌≡◌, ℕ, ◌+◌, ◌-◌, ◌*◌, ◌/◌, ◌<◌, ◌≤◌, arith}
+use Rattle.std.proofs.lemmas.Nat.{mul-le, div-add-mod', mod_below}
+use Rattle.bounds.specs.Lemmas.Quotients.{quotient_is}
 
 module _ (x p : ℕ) (some : 1 ≤ p) where
   -- what the ratio of p tells of the quotient of x

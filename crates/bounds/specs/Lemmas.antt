@@ -6,4 +6,9 @@ pub mod Corners
 pub mod ExactLaws
 pub mod Lines
 pub mod TailLaws
+pub mod Quotients
+pub mod Grains
+pub mod Stairs
+pub mod StairCounts
+pub mod StairLaws
 pub mod SuppliedLaws

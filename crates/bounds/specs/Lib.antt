@@ -6,6 +6,7 @@ pub mod Questions
 pub mod Marks
 pub mod Laws
 pub mod Tails
+pub mod Stairs
 pub mod Supplied
 pub mod Values
 pub mod Families

@@ -17,25 +17,27 @@ ghost use Rattle.bounds.specs.Families.{
 
 use crate::interface::Bound;
 use crate::linear::LinearTail;
+use crate::stairs::Staircase;
 use crate::supplied::Supplied;
 use rows::{Fault, Refusal};
 use std::fmt;
 
-/// A kind of bound that is supplied (docs/RULES.md, Bounds): exact steps, or the linear tail of
-/// whatever accuracy.
+/// A kind of bound that is supplied (docs/RULES.md, Bounds): exact steps, or the linear tail or
+/// the staircase of whatever accuracy.
 #[derive(Clone, Copy, PartialEq, Eq, Debug)]
 pub enum Family {
     ExactSteps = 0,
     LinearTail = 1,
+    Staircase = 2,
 }
 
 impl Family {
     /// All kinds, in the order of their numbers.
-    pub const ALL: [Family; 2] = [Family::ExactSteps, Family::LinearTail];
+    pub const ALL: [Family; 3] = [Family::ExactSteps, Family::LinearTail, Family::Staircase];
 
     /// All of them. The number of each names it, and no other.
     #[tactic(auto, using(crate::proofs::Numbered::numbered))]
-    pub fn all() -> [Family; 2]
+    pub fn all() -> [Family; 3]
         ensures all { result ≡ ALL }
         ensures each { (f : Family) → family_of_number (family_number f) ≡ Some f }
     {
@@ -58,6 +60,7 @@ impl Family {
         match number {
             0 => Some(Family::ExactSteps),
             1 => Some(Family::LinearTail),
+            2 => Some(Family::Staircase),
             _ => None,
         }
     }
@@ -69,6 +72,7 @@ impl Family {
         match self {
             Family::ExactSteps => "exact",
             Family::LinearTail => "linear",
+            Family::Staircase => "staircase",
         }
     }
 
@@ -79,6 +83,7 @@ impl Family {
         match self {
             Family::ExactSteps => "exact steps",
             Family::LinearTail => "linear tail",
+            Family::Staircase => "staircase",
         }
     }
 
@@ -86,7 +91,7 @@ impl Family {
     pub fn has_accuracies(&self) -> bool
         ensures { result ≡ has_accuracies self.now }
     {
-        matches!(self, Family::LinearTail)
+        matches!(self, Family::LinearTail | Family::Staircase)
     }
 
     /// The bound of the kind that an accuracy names: 0 where there is but one.
@@ -101,6 +106,7 @@ impl Family {
             Family::ExactSteps if accuracy == 0 => Ok(Supplied::ExactSteps),
             Family::ExactSteps => Err(Refusal::BadAccuracy.at(0)),
             Family::LinearTail => Ok(Supplied::LinearTail(LinearTail::new(accuracy)?)),
+            Family::Staircase => Ok(Supplied::Staircase(Staircase::new(accuracy)?)),
         }
     }
 }
@@ -137,6 +143,7 @@ impl Supplied {
         match self {
             Supplied::ExactSteps => (Family::ExactSteps, 0),
             Supplied::LinearTail(tail) => (Family::LinearTail, tail.accuracy()),
+            Supplied::Staircase(stairs) => (Family::Staircase, stairs.accuracy()),
         }
     }
 }

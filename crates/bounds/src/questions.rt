@@ -1,6 +1,6 @@
 // Questions to which a bound has something to answer, as values that only a check makes.
 ghost use Rattle.std.specs.Prelude.{IsTrue, ◌≡◌};
-ghost use Rattle.rows.specs.Counting.{steps};
+ghost use Rattle.bounds.specs.Stairs.{jobs_until};
 ghost use Rattle.bounds.specs.Meaning.{can_be_asked, is_asked};
 ghost use Rattle.bounds.specs.Ratios.{ratio_of};
 
@@ -15,19 +15,21 @@ pub struct Asked<'a> {
     frame: u32,
     row: &'a Row,
     at: u32,
-    steps: u32,
+    jobs: u32,
     ghost asked: { IsTrue (is_asked frame row.now at) },
-    ghost counted: { steps ≡ Rattle.rows.specs.Counting.steps row.now at },
+    ghost counted: { jobs ≡ jobs_until row.now at },
 }
 
 impl<'a> Asked<'a> {
     ghost use Rattle.std.specs.Prelude.{false, MatchOption, ◌≡◌, ◌≤◌, ◌*◌};
     ghost use Rattle.rows.specs.Counting.{steps};
     ghost use Rattle.rows.specs.Times.{horizon};
+    ghost use Rattle.bounds.specs.Stairs.{jobs_until};
     ghost use Rattle.bounds.specs.Questions.{IsQuestion, asked_at, asked_frame, asked_row};
 
     /// The question of a frame in ticks, a row and an instant. There is none where the frame is 0 or past
     /// the horizon, where the period does not divide it, or where the instant is past the horizon.
+    #[tactic(auto, using(rows::proofs::Ceiling::ceiling_by_quotient))]
     pub fn new(frame: u32, row: &'a Row, at: u32) -> Option<Asked<'a>>
         ensures { MatchOption result (is_asked frame row.now at ≡ false)
             (λ q. (asked_frame q ≡ frame) × (asked_row q ≡ row.now) × (asked_at q ≡ at)) }
@@ -39,7 +41,7 @@ impl<'a> Asked<'a> {
             frame,
             row,
             at,
-            steps: row.steps(at) as u32,
+            jobs: (at + row.jitter).div_ceil(row.period),
         })
     }
 
@@ -72,7 +74,15 @@ impl<'a> Asked<'a> {
         ensures answered { result ≡ steps (asked_row self.now) (asked_at self.now) }
         ensures few { result ≤ 3 * horizon }
     {
-        self.steps
+        self.row.work * self.jobs
+    }
+
+    /// The most jobs of the row that can ask for work from the moment that it is ready to the instant.
+    pub fn jobs(&self) -> u32
+        ensures answered { result ≡ jobs_until (asked_row self.now) (asked_at self.now) }
+        ensures few { result ≤ 3 * horizon }
+    {
+        self.jobs
     }
 }
 
@@ -110,7 +120,7 @@ fn can_be_asked(frame: u32, row: &Row) -> bool
 }
 
 impl OnFrame {
-    ghost use Rattle.std.specs.Prelude.{false, MatchOption, ◌≡◌, ◌<◌, ◌≤◌, ◌+◌, ◌-◌};
+    ghost use Rattle.std.specs.Prelude.{false, MatchOption, ◌≡◌, ◌<◌, ◌≤◌, ◌+◌, ◌-◌, ◌/◌};
     ghost use Rattle.rows.specs.Counting.{is_rise};
     ghost use Rattle.rows.specs.Times.{horizon};
     ghost use Rattle.bounds.specs.Instants.{least};
@@ -147,7 +157,7 @@ impl OnFrame {
             frame: self.frame,
             row,
             at,
-            steps: row.work * jobs,
+            jobs,
         })
     }
 
@@ -156,6 +166,14 @@ impl OnFrame {
         ensures { result.now ≡ row_on self.now }
     {
         &self.row
+    }
+
+    // How many rises of the row there are up to an instant.
+    pub(crate) fn rises_until(&self, at: u32) -> u32
+        requires { at ≤ horizon }
+        ensures { result ≡ (at + (row_on self.now).jitter) / (row_on self.now).period }
+    {
+        quotient(at + self.row.jitter, &self.row, self.ratio)
     }
 
     // The first rise of the row after an instant, up to `last`.

@@ -1,5 +1,5 @@
 // The instants at which exact steps rise.
-ghost use Rattle.std.specs.Prelude.{◌≡◌, ◌+◌, ◌-◌, ◌≤◌, length};
+ghost use Rattle.std.specs.Prelude.{IsTrue, ◌≡◌, ◌+◌, ◌-◌, ◌/◌, ◌≤◌, length};
 ghost use Rattle.rows.specs.Times.{horizon};
 ghost use Rattle.rows.specs.Counting.{is_rise};
 ghost use Rattle.bounds.specs.Instants.{IsFirst, least};
@@ -7,6 +7,7 @@ ghost use Rattle.bounds.specs.Marks.{Marks, up_to};
 ghost use Rattle.bounds.specs.Ratios.{ratio_of};
 
 use crate::ratios::quotient;
+use crate::walks::{Walk, mark_along};
 use rows::Row;
 
 // The first instant after the given one just after which the row's steps rise.
@@ -40,6 +41,18 @@ fn rise_by(row: &Row, ratio: u32, after: u32) -> u32
     (quotient(after + row.jitter, row, ratio) + 1) * row.period - row.jitter
 }
 
+// How many rises there are up to an instant: with no division where it is before the first.
+pub(crate) fn rises_until(row: &Row, at: u32) -> u32
+    requires { at ≤ horizon }
+    ensures { result ≡ (at + row.now.jitter) / row.now.period }
+{
+    if at + row.jitter < row.period {
+        0
+    } else {
+        (at + row.jitter) / row.period
+    }
+}
+
 // The first rise after an instant, up to `last`.
 pub(crate) fn rise_after(row: &Row, after: u32, last: u32) -> Option<u32>
     requires { last ≤ horizon }
@@ -65,9 +78,34 @@ pub(crate) fn rise_after_by(row: &Row, ratio: u32, after: u32, last: u32) -> Opt
     if rise <= last { Some(rise) } else { None }
 }
 
+// The rises of a row, gone through from one on: every period has one.
+#[derive(Drop)]
+struct Rises<'a> {
+    row: &'a Row,
+    at: u32,
+    ghost rise: { IsTrue (is_rise row.now at) },
+}
+
+impl Walk for Rises<'_> {
+    ghost kind = { λ w. is_rise w.row.now };
+
+    ghost here = { λ w. w.at };
+
+    fn at(&self) -> u32 {
+        self.at
+    }
+
+    #[tactic(auto, using(crate::proofs::Rises::period_later))]
+    fn go_on(&mut self) {
+        let (row, at) = (self.row, self.at + self.row.period);
+        *self = Rises { row, at };
+    }
+}
+
 // Sets the flags of the rises up to `last` among the instants just after `after`, where flag k
 // stands for after + 1 + k, and answers the first rise past these instants, up to `last`. At most one
-// division finds the first rise; from there on every period has one.
+// division finds the first rise.
+#[tactic(auto, using(crate::proofs::Marking::least_over))]
 pub(crate) fn mark_rises(row: &Row, after: u32, last: u32, marks: &mut [bool]) -> Option<u32>
     requires { last ≤ horizon }
     ensures marks { Marks (up_to last (is_rise row.now)) after marks.old marks.new }
@@ -76,17 +114,6 @@ pub(crate) fn mark_rises(row: &Row, after: u32, last: u32, marks: &mut [bool]) -
     if after >= last {
         return None;
     }
-    let room = (last - after) as usize;
-    let end = marks.len().min(room);
-    let period = row.period as usize;
-    let mut place = (early_rise(row, after) - after - 1) as usize;
-    while place < end {
-        marks[place] = true;
-        place += period;
-    }
-    if place < room {
-        Some(after + 1 + place as u32)
-    } else {
-        None
-    }
+    let at = early_rise(row, after);
+    mark_along(&mut Rises { row, at }, after, last, marks)
 }

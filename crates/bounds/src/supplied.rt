@@ -3,6 +3,7 @@ use crate::exact::ExactSteps;
 use crate::interface::Bound;
 use crate::linear::LinearTail;
 use crate::questions::{Asked, OnFrame};
+use crate::stairs::Staircase;
 use rows::Row;
 
 /// A bound that the toolkit supplies, as a value: by it a program counts with whichever bound its
@@ -11,6 +12,7 @@ use rows::Row;
 pub enum Supplied {
     ExactSteps,
     LinearTail(LinearTail),
+    Staircase(Staircase),
 }
 
 // The same call of whichever bound it is.
@@ -22,6 +24,7 @@ macro_rules! ask {
                 $call
             }
             Supplied::LinearTail($bound) => $call,
+            Supplied::Staircase($bound) => $call,
         }
     };
 }

@@ -4,6 +4,7 @@ use Rattle.std.proofs.Common.{arith}
 use Rattle.bounds.specs.declared.linear.Line.{Line}
 use Rattle.bounds.specs.declared.supplied.Supplied.{Supplied}
 use Rattle.bounds.specs.declared.supplied.Supplied.TheVariants.{ExactSteps as exact, LinearTail as tail}
+use Rattle.bounds.specs.declared.supplied.Supplied.TheVariants.{Staircase as stairs}
 use Rattle.bounds.specs.Laws.{Laws}
 use Rattle.bounds.specs.Meaning.{finest}
 use Rattle.bounds.specs.Supplied.{line_shape, linear_tail}
@@ -12,6 +13,7 @@ use Rattle.bounds.specs.Values.{accuracy_of_line, meaning_of}
 use Rattle.bounds.specs.Lemmas.Asking.{asked_tells}
 use Rattle.bounds.specs.Lemmas.ExactLaws.{exact_laws}
 use Rattle.bounds.specs.Lemmas.Lines.{line_close, line_covers, line_straight}
+use Rattle.bounds.specs.Lemmas.StairLaws.{stair_laws}
 use Rattle.bounds.specs.Lemmas.TailLaws.{tail_laws}
 
 -- the line owes nothing past k − 1 exact releases, k the accuracy
@@ -37,3 +39,4 @@ linear_laws k low high = tail_laws (line_shape k) (line_laws k low high)
 pub laws_of : (s : Supplied) → Laws (meaning_of s)
 laws_of exact = exact_laws
 laws_of (tail t) = tail_laws (line_shape (accuracy_of_line t.late)) (line_laws_of t.late)
+laws_of (stairs s) = stair_laws s.accuracy s.low s.high
