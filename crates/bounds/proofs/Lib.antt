@@ -4,5 +4,5 @@ pub mod Marking
 pub mod Quotients
 pub mod Rises
 pub mod StairWalks
-pub mod SameTail
+pub mod SameBound
 pub mod Numbered

@@ -2,10 +2,10 @@
 use Rattle.std.proofs.Common.{◌≡◌, ℕ, ◌+◌, ◌%◌, true, not, eqb, List, [], ◌∷◌, Some, None, Option, refl, sym, ap, ◌∙◌}
 use Rattle.std.proofs.Common.{arith}
 use Rattle.std.specs.Option.{option_map}
-use Rattle.std.proofs.lemmas.Bool.{and_from, le-leb, le-ltb, ne_eqb, not-false, not_from_true}
+use Rattle.std.proofs.lemmas.Bool.{le-ltb, ne_eqb, not-false, not_from_true}
 use Rattle.rows.specs.declared.frames.FrameNumbers.{FrameNumbers}
 use Rattle.rows.specs.declared.judging.Flaw.TheVariants.{Idle, Cramped, Late, Long, Off}
-use Rattle.rows.specs.declared.refusals.Refusal.TheVariants.{BadFrame, BadAccuracy, IdleRow, NoWindow, LateDeadline}
+use Rattle.rows.specs.declared.refusals.Refusal.TheVariants.{BadFrame, IdleRow, NoWindow, LateDeadline}
 use Rattle.rows.specs.declared.refusals.Refusal.TheVariants.{LongPeriod, OffFrame}
 use Rattle.rows.specs.declared.tasks.Numbers.{Numbers}
 use Rattle.rows.specs.declared.tasks.Row.{Row}
@@ -16,10 +16,8 @@ use Rattle.rows.specs.Judging.{plain, row_flaws, frame_flaws, flaw_check, flaw_c
 use Rattle.rows.specs.Times.{horizon, is_frame}
 use Rattle.rows.proofs.Checks.{first_passes, given_is, passed_first, passes_on}
 use Rattle.bounds.specs.declared.supplied.Supplied.{Supplied}
-use Rattle.bounds.specs.declared.supplied.Supplied.TheVariants.{ExactSteps as exact, LinearTail as tail}
-use Rattle.bounds.specs.Meaning.{finest, is_accuracy}
+use Rattle.bounds.proofs.SameBound.{named_passes}
 use Rattle.leaves.specs.declared.entries.Heading.{Heading}
-use Rattle.bounds.specs.Values.{accuracy_of}
 use Rattle.bounds.specs.Families.{bound_numbers, named_checks}
 use Rattle.leaves.specs.Headings.{told_at, bound_checks, heading_plain, heading_checks}
 
@@ -43,18 +41,11 @@ heading_passes h at =
     sym (passed_first (told_at at (frame_checks h.frame)) (bound_checks (heading_plain h) at) tt tt
     (all_pass at (frame_checks h.frame) (sym (framed h.frame h.framed))) tt) ∙ named h.bound
   where
-    fine : (b : Supplied) → first_refusal (named_checks (bound_numbers b).0 (bound_numbers b).1) ≡ gives tt
-    fine exact = refl
-    fine (tail t) =
-        let k = accuracy_of t in
-        passes_on (not (is_accuracy k)) BadAccuracy 0 _
-        (not_from_true _ (and_from _ _ (le-leb 1 k t.late.low) (le-leb k finest t.late.high)))
-
     named : (b : Supplied)
         → first_refusal
         (bound_checks (record { frame = h.frame; bound = (bound_numbers b).0; accuracy = (bound_numbers b).1 }) at)
         ≡ gives tt
-    named b = sym (all_pass at (named_checks (bound_numbers b).0 (bound_numbers b).1) (sym (fine b)))
+    named b = sym (all_pass at (named_checks (bound_numbers b).0 (bound_numbers b).1) (sym (named_passes b)))
 
 -- the numbers of a row pass their checks
 pub numbers_pass : (r : Row) (at : ℕ) → first_refusal (flaw_checks row_flaws (plain r) at) ≡ gives tt

@@ -1,16 +1,13 @@
 -- A heading is known by its numbers.
-use Rattle.std.proofs.Common.{◌≡◌, ◌≤◌, leb, refl, ap, arith}
+use Rattle.std.proofs.Common.{◌≡◌, ◌≤◌, leb, ap}
 use mathlib.Core.Bool.{Bool-set}
 use mathlib.Core.HLevel.{is_prop→PathP}
 use Rattle.std.proofs.lemmas.Bool.{and_parts, leb-true}
 use Rattle.rows.specs.declared.frames.FrameNumbers.{FrameNumbers}
 use Rattle.rows.specs.Frames.{IsFrame}
 use Rattle.rows.specs.Times.{horizon}
-use Rattle.bounds.specs.declared.supplied.Supplied.{Supplied}
-use Rattle.bounds.specs.declared.supplied.Supplied.TheVariants.{ExactSteps as exact, LinearTail as tail}
-use Rattle.bounds.proofs.SameTail.{same_tail}
+use Rattle.bounds.proofs.SameBound.{same_bound}
 use Rattle.leaves.specs.declared.entries.Heading.{Heading}
-use Rattle.bounds.specs.Families.{bound_numbers}
 use Rattle.leaves.specs.Headings.{heading_plain}
 
 -- the frame of a heading ends at the horizon
@@ -21,14 +18,6 @@ frame_near h =
 -- there is one proof that numbers are a frame
 frame_once : (n : FrameNumbers) (a b : IsFrame n) → a ≡ b
 frame_once n a b = λ i. record { ticks = Bool-set _ _ a.ticks b.ticks i }
-
--- a bound is known by what a heading tells of it
-same_bound : (a b : Supplied) → (bound_numbers a).0 ≡ (bound_numbers b).0 → (bound_numbers a).1 ≡ (bound_numbers b).1
-    → a ≡ b
-same_bound exact exact number accuracy = refl
-same_bound exact (tail t) number accuracy = absurd (omega arith)
-same_bound (tail s) exact number accuracy = absurd (omega arith)
-same_bound (tail s) (tail t) number accuracy = ap tail (same_tail s t accuracy)
 
 -- headings with the same numbers are the same heading
 pub same_heading : (g h : Heading) → heading_plain g ≡ heading_plain h → g ≡ h
