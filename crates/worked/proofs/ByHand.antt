@@ -4,11 +4,12 @@ use Rattle.std.proofs.Common.{refl, ◌∙◌, subst, ⊎_elim, arith}
 use Rattle.std.proofs.lemmas.Bool.{and_parts, and_right, cases_lt, cases_order, lt-leb, ne_eqb, or_from}
 use Rattle.rows.specs.Counting.{is_rise}
 use Rattle.bounds.specs.Instants.{least, count}
-use Rattle.bounds.specs.Supplied.{linear_tail}
+use Rattle.bounds.specs.Stairs.{greatest_power}
+use Rattle.bounds.specs.Supplied.{linear_tail, staircase}
 use Rattle.bounds.specs.Tails.{is_exact}
 use Rattle.findings.specs.Findings.{first_rest, stop, points}
 use Rattle.brackets.specs.Speeds.{rest_at_speed}
-use Rattle.worked.specs.Table.{Worked, row_b}
+use Rattle.worked.specs.Table.{Worked, row_a, row_b}
 use Rattle.worked.proofs.Calls.{calls_come}
 
 -- two tests agree on the numbers below n
@@ -37,8 +38,16 @@ corners_of_b t =
     ∙ sym (or_from (eqb t 5) (eqb t 11) (ne_eqb t 5 (λ e. omega arith)) (ne_eqb t 11 (λ e. omega arith))))
     (cases_lt t 12)
 
+-- the instants that are told for the corners of A
+abbrev told_of_a : ℕ → Bool
+told_of_a t = eqb t 4 || eqb t 8 || eqb t 12 || eqb t 16 || eqb t 24 || eqb t 32
+
+stair_corners_of_a : (t : ℕ) → t ≤ 40 → (staircase 2).is_corner row_a t ≡ told_of_a t
+unfolding greatest_power
+stair_corners_of_a t near = agrees ((staircase 2).is_corner row_a) told_of_a 41 t refl (omega arith)
+
 pub worked : Worked
-unfolding least count first_rest stop points rest_at_speed
+unfolding least count first_rest stop points rest_at_speed greatest_power
 worked = record {
   exact_a = refl;
   exact_b = refl;
@@ -56,6 +65,13 @@ worked = record {
   parts_at_5 = refl;
   parts_at_6 = refl;
   corners = corners_of_b;
+  stairs_1_b = refl;
+  stairs_1_e = refl;
+  stairs_2_e = refl;
+  table_stairs_1 = refl;
+  jobs_counted = refl;
+  stair_corners = stair_corners_of_a;
+  stair_parts_at_9 = refl;
   table_g_first = refl;
   table_g_between = refl;
   bench_answers = calls_come.answered;

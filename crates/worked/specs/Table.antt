@@ -1,5 +1,5 @@
 -- The worked table: three rows on a frame of 12, and what is found about them and told by a bench, counted by hand.
-use Rattle.std.specs.Prelude.{◌≡◌, ℕ, ◌||◌, List, [], ◌∷◌, Some, None, ◌==◌}
+use Rattle.std.specs.Prelude.{◌≡◌, ℕ, ◌≤◌, ◌||◌, List, [], ◌∷◌, Some, None, ◌==◌, map}
 use Rattle.std.proofs.Common.{lit≤}
 use Rattle.rows.specs.declared.refusals.Refusal.TheVariants.{Overload, NewcomerOverload}
 use Rattle.rows.specs.declared.tasks.Row.{Row}
@@ -9,7 +9,8 @@ use Rattle.rows.specs.Counting.{steps}
 use Rattle.rows.specs.Frames.{frame_of}
 use Rattle.rows.specs.Judging.{plain}
 use Rattle.bounds.specs.Meaning.{Meaning}
-use Rattle.bounds.specs.Supplied.{exact_steps, linear_tail}
+use Rattle.bounds.specs.Stairs.{rounded}
+use Rattle.bounds.specs.Supplied.{exact_steps, linear_tail, staircase}
 use Rattle.rows.specs.Found.{Found}
 use Rattle.findings.specs.Findings.{row_finding}
 use Rattle.findings.specs.Tables.{findings_of}
@@ -122,6 +123,19 @@ pub record Worked : Type 0 where
   pub parts_at_6 : (linear_tail 2).amount 12 row_b 6 ≡ 52
   -- the corners of B under the tail of accuracy 3 are 5 and 11
   pub corners : (t : ℕ) → (linear_tail 3).is_corner row_b t ≡ (t == 5 || t == 11)
+  -- by the staircases of accuracy 1 and 2: B, E, and the whole table
+  pub stairs_1_b : found (staircase 1) row_b (row_a ∷ []) ≡ meets 3 1
+  pub stairs_1_e : found (staircase 1) row_e (row_a ∷ row_b ∷ []) ≡ meets 11 4
+  pub stairs_2_e : found (staircase 2) row_e (row_a ∷ row_b ∷ []) ≡ meets 10 4
+  pub table_stairs_1 : findings_of (staircase 1) (frame_of 12) (row_a ∷ row_b ∷ row_e ∷ [])
+      ≡ meets 1 1 ∷ meets 3 1 ∷ meets 11 4 ∷ []
+  -- how many jobs the staircase of accuracy 2 counts for 1 to 9 jobs, and the corners of A by it up to 40
+  pub jobs_counted : map (rounded 2) (1 ∷ 2 ∷ 3 ∷ 4 ∷ 5 ∷ 6 ∷ 7 ∷ 8 ∷ 9 ∷ [])
+      ≡ 1 ∷ 2 ∷ 3 ∷ 4 ∷ 6 ∷ 6 ∷ 8 ∷ 8 ∷ 12 ∷ []
+  pub stair_corners : (t : ℕ) → t ≤ 40
+      → (staircase 2).is_corner row_a t ≡ (t == 4 || t == 8 || t == 12 || t == 16 || t == 24 || t == 32)
+  -- the amount of A by the staircase of accuracy 1 at 9, where three jobs count as four
+  pub stair_parts_at_9 : (staircase 1).amount 12 row_a 9 ≡ 48
   -- with G above B and E, it meets and both of them miss; with G between them, it misses itself, and E does
   pub table_g_first : findings_of (linear_tail 2) (frame_of 12) (row_g ∷ row_b ∷ row_e ∷ [])
       ≡ meets 5 1 ∷ misses 1 ∷ misses 3 ∷ []

@@ -1,11 +1,11 @@
-//! The worked table, surveyed in exact steps and by linear tails, counted both ways, and
-//! printed, and a bench that refuses a row and admits it later, and refuses one for two reasons.
+//! The worked table, surveyed in exact steps, by linear tails and by a staircase, counted both ways,
+//! and printed, and a bench that refuses a row and admits it later, and refuses one for two reasons.
 #![tactic(auto)]
 
 mod printing;
 mod table;
 
-use bounds::{Bound, ExactSteps, LinearTail};
+use bounds::{Bound, ExactSteps, LinearTail, Staircase};
 use printing::{
     print_accuracies, print_bench, print_both, print_response_times, print_rows, print_survey,
 };
@@ -30,6 +30,7 @@ fn run(rt: &HostRuntime) -> anyhow::Result<()> {
     compare(rt, "linear tail, accuracy 1", &LinearTail::new(1)?, &rows)?;
     compare(rt, "linear tail, accuracy 2", &LinearTail::new(2)?, &rows)?;
     compare(rt, "linear tail, accuracy 3", &LinearTail::new(3)?, &rows)?;
+    compare(rt, "staircase, accuracy 1", &Staircase::new(1)?, &rows)?;
     print_accuracies(rt, &rows)?;
     print_response_times(rt, &rows)?;
     print_bench(rt, "linear tail, accuracy 2", LinearTail::new(2)?)
