@@ -4,7 +4,7 @@ ghost use Rattle.bounds.specs.Lemmas.ExactLaws.{exact_laws};
 
 use crate::agreeing::agree;
 use crate::building::row;
-use bounds::{Asked, Bound, ExactSteps, LinearTail, OnFrame, Supplied};
+use bounds::{Asked, Bound, ExactSteps, LinearTail, OnFrame, Staircase, Supplied};
 use rows::{Fault, HORIZON, Refusal, Row};
 use std::process::Abort;
 
@@ -14,11 +14,19 @@ fn made(k: u32) -> Result<(u32, u32), Fault> {
     Ok((tail.accuracy(), tail.most()))
 }
 
+// The same of the staircase.
+fn rising(k: u32) -> Result<(u32, u32), Fault> {
+    let stairs = Staircase::new(k)?;
+    Ok((stairs.accuracy(), stairs.most()))
+}
+
 #[test]
 fn accuracies_from_1_to_64(rt: HostRuntime) {
     let bad = Err(Refusal::BadAccuracy.at(0));
     agree(&rt, [made(0), made(65), made(u32::MAX)], [bad; 3]);
     agree(&rt, [made(1), made(64)], [Ok((1, 0)), Ok((64, 63))]);
+    agree(&rt, [rising(0), rising(65), rising(u32::MAX)], [bad; 3]);
+    agree(&rt, [rising(1), rising(64)], [Ok((1, 26)), Ok((64, 1664))]);
     let steps = (ExactSteps.accuracy(), ExactSteps.most());
     agree(&rt, steps, (64, HORIZON));
 }
@@ -26,6 +34,11 @@ fn accuracies_from_1_to_64(rt: HostRuntime) {
 // The linear tail of accuracy k, for a test that has no other k than from 1 to 64.
 pub(crate) fn tail(rt: &impl Abort, k: u32) -> LinearTail {
     LinearTail::new(k).expect(rt, "an accuracy is refused")
+}
+
+// The staircase of accuracy k, for a test that has no other k than from 1 to 64.
+pub(crate) fn stairs(rt: &impl Abort, k: u32) -> Staircase {
+    Staircase::new(k).expect(rt, "an accuracy is refused")
 }
 
 // What B demands at 5 and at 6 on a frame of 12.
@@ -59,6 +72,60 @@ fn corners_in_turn(rt: HostRuntime) {
     ];
     let wanted = [Some(5), Some(5), Some(11), None, None, Some(17), None];
     agree(&rt, corners, wanted);
+}
+
+// What a row of work 1 and period 4 demands on a frame of 4, in jobs, for 1 to 9 jobs and for 2^22.
+fn jobs_counted(bound: &Staircase) -> [u64; 10] {
+    let a = row(1, 4, 4, 0);
+    let jobs = |n: u32| bound.amount(4, &a, n.saturating_mul(4)) / 4;
+    [
+        jobs(1),
+        jobs(2),
+        jobs(3),
+        jobs(4),
+        jobs(5),
+        jobs(6),
+        jobs(7),
+        jobs(8),
+        jobs(9),
+        jobs(4_194_304),
+    ]
+}
+
+#[test]
+fn jobs_on_a_coarser_grain(rt: HostRuntime) {
+    let two = [1, 2, 3, 4, 6, 6, 8, 8, 12, 4_194_304];
+    agree(&rt, jobs_counted(&stairs(&rt, 2)), two);
+    let one = [1, 2, 4, 4, 8, 8, 8, 8, 16, 4_194_304];
+    agree(&rt, jobs_counted(&stairs(&rt, 1)), one);
+    let nine = [1, 2, 3, 4, 5, 6, 7, 8, 9, 4_194_304];
+    agree(&rt, jobs_counted(&stairs(&rt, 9)), nine);
+}
+
+// The corners of a row of period 4 up to 40 by the staircase of accuracy 2, and those of the same row
+// with a jitter of 1, each from the one before; and the last one by accuracy 1, at the horizon itself.
+#[test]
+fn corners_at_stairs(rt: HostRuntime) {
+    let bound = stairs(&rt, 2);
+    let (a, late) = (row(1, 4, 4, 0), row(1, 4, 4, 1));
+    let mut seen = 0;
+    for corner in [4, 8, 12, 16, 24, 32, 48] {
+        let next = [
+            bound.next_corner(4, &a, seen),
+            bound.next_corner(4, &a, corner - 1),
+            bound.next_corner(4, &late, corner - 2),
+        ];
+        agree(&rt, next, [Some(corner), Some(corner), Some(corner - 1)]);
+        seen = corner;
+    }
+    let one = stairs(&rt, 1);
+    let half = HORIZON / 2;
+    let last = [
+        one.next_corner(4, &a, half),
+        one.next_corner(4, &a, HORIZON),
+        one.next_corner(4, &a, u32::MAX),
+    ];
+    agree(&rt, last, [Some(HORIZON), None, None]);
 }
 
 // A frame and an instant each, where there is nothing to answer.
@@ -125,6 +192,9 @@ fn supplied_bounds_answer_as_those_they_name(rt: HostRuntime) {
     let tail = tail(&rt, 2);
     let line = [answers(&tail), answers(&Supplied::LinearTail(tail))];
     agree(&rt, line, [(52, None, 2, 1); 2]);
+    let stairs = stairs(&rt, 1);
+    let whole = [answers(&stairs), answers(&Supplied::Staircase(stairs))];
+    agree(&rt, whole, [(48, Some(11), 1, 26); 2]);
 }
 
 // Exact steps that leave their flags to the method that the trait provides.
@@ -180,6 +250,34 @@ fn flags_of_corners(rt: HostRuntime) {
     ];
     agree(&rt, line, [(both, None), (both, None), (NEITHER, None)]);
     agree(&rt, tail_3.mark(&b, 4, &mut [false; 3]), Some(11));
+}
+
+// By the staircase of accuracy 1 the corners of a row of period 1 are 1, 2, 4, 8, 16: flags from 1 on,
+// those past 8, none, and none behind the last one.
+#[test]
+fn flags_of_stairs(rt: HostRuntime) {
+    let one = stairs(&rt, 1);
+    let short = row(1, 1, 1, 0);
+    let first = [true, true, true, true, false, false, false, true];
+    agree(&rt, flags(&one, &short, 0), (first, Some(16)));
+    agree(
+        &rt,
+        flags(&one, &short, 8),
+        {
+            let mut sixteen = NEITHER;
+            sixteen[7] = true;
+            (sixteen, Some(32))
+        },
+    );
+    agree(&rt, one.mark(&short, 8, &mut [false; 3]), Some(16));
+    let last = [
+        flags(&one, &short, HORIZON - 8),
+        flags(&one, &short, HORIZON),
+        flags(&one, &short, u32::MAX),
+    ];
+    let mut end = NEITHER;
+    end[7] = true;
+    agree(&rt, last, [(end, None), (NEITHER, None), (NEITHER, None)]);
 }
 
 // The last corner of A stands on the horizon itself.

@@ -31,9 +31,10 @@ fn filed((frame, bound, accuracy): Plain, counts: Counts) -> (Result<usize, Faul
 }
 
 // Each case has all that a later check refuses too.
-static REFUSED: [(Plain, Counts, Refusal, u32); 14] = [
-    ((0, 2, 65), [33, 0, 33, 0, 0], Refusal::BadFrame, 0),
-    ((12, 2, 65), [33, 0, 33, 0, 0], Refusal::UnknownBound, 0),
+static REFUSED: [(Plain, Counts, Refusal, u32); 15] = [
+    ((0, 3, 65), [33, 0, 33, 0, 0], Refusal::BadFrame, 0),
+    ((12, 3, 65), [33, 0, 33, 0, 0], Refusal::UnknownBound, 0),
+    ((12, 2, 65), [33, 0, 33, 0, 0], Refusal::BadAccuracy, 0),
     ((12, 1, 65), [33, 0, 33, 0, 0], Refusal::BadAccuracy, 0),
     ((12, 1, 3), [33, 0, 33, 0, 0], Refusal::FullTable, 551),
     ((12, 1, 3), [1, 0, 33, 0, 0], Refusal::OffFrame, 7),

@@ -1,7 +1,7 @@
 // Surveys of whole tables: how many rows, which refusal comes first, and what the list holds
 // afterwards.
 use crate::agreeing::agree;
-use crate::bounded::tail;
+use crate::bounded::{stairs, tail};
 use crate::building::{meets, misses, numbers};
 use bounds::{Bound, ExactSteps, Supplied};
 use rows::{Fault, Finding, FrameNumbers, HORIZON, Numbers, Refusal};
@@ -76,6 +76,13 @@ fn surveys_by_supplied_bounds(rt: HostRuntime) {
     let found = [meets(1, 1), meets(3, 1), misses(3)];
     let tail = Supplied::LinearTail(tail(&rt, 2));
     agree(&rt, surveyed(&tail, 12, &TABLE), (Ok(3), found));
+    let found = [meets(1, 1), meets(3, 1), meets(11, 4)];
+    let whole = Supplied::Staircase(stairs(&rt, 1));
+    let rising = [
+        surveyed(&whole, 12, &TABLE),
+        surveyed(&stairs(&rt, 1), 12, &TABLE),
+    ];
+    agree(&rt, rising, [(Ok(3), found); 2]);
 }
 
 // Four places of a list of 34.

@@ -46,10 +46,11 @@ fn begun(frame: u32, bound: u8, accuracy: u8, size: usize) -> (Result<u32, Fault
 }
 
 // A heading each, the bytes of room and the refusal.
-static HEADINGS: [(u32, u8, u8, usize, Refusal); 7] = [
-    (0, 2, 65, 0, Refusal::BadFrame),
+static HEADINGS: [(u32, u8, u8, usize, Refusal); 8] = [
+    (0, 3, 65, 0, Refusal::BadFrame),
     (HORIZON + 1, 1, 3, 7, Refusal::BadFrame),
-    (12, 2, 65, 0, Refusal::UnknownBound),
+    (12, 3, 65, 0, Refusal::UnknownBound),
+    (12, 2, 0, 0, Refusal::BadAccuracy),
     (12, 0, 1, 0, Refusal::BadAccuracy),
     (12, 1, 65, 0, Refusal::BadAccuracy),
     (12, 1, 3, 0, Refusal::ShortBuffer),
@@ -65,6 +66,8 @@ fn headings(rt: HostRuntime) {
     }
     let written = [0x46, 0, 0, 0, 12, 1, 3];
     agree(&rt, begun(12, 1, 3, 7), (Ok(7), written));
+    let written = [0x46, 0, 0, 0, 12, 2, 64];
+    agree(&rt, begun(12, 2, 64, 7), (Ok(7), written));
 }
 
 // What a leaf of so many rows answers to one more in so many bytes of room, and whether leaf and
