@@ -22,6 +22,7 @@ sys.dont_write_bytecode = True  # leave no cache beside the sources
 from counts import (  # noqa: E402
     EXACT_STEPS,
     LINEAR_TAILS,
+    STAIRCASES,
     finding,
     first_rest,
     no_later,
@@ -46,13 +47,16 @@ MOST_NUMBER = 4_294_967_295
 MOST_BYTES = 128  # of a line that is no comment
 
 # The lines that name a bound and those that are calls: their first words, and what the others stand for.
-BOUND_FORMS = {b'exact': [], b'linear': ['K']}
+BOUND_FORMS = {b'exact': [], b'linear': ['K'], b'staircase': ['K']}
 CALL_FORMS = {
     b'frame': ['H'],
     b'admit': ['RANK', 'C', 'D', 'T', 'J'],
     b'dismiss': ['RANK'],
     b'inquire': ['RANK'],
 }
+
+# The bounds that are named with an accuracy, by their words.
+BOUNDS = {b'linear': LINEAR_TAILS, b'staircase': STAIRCASES}
 
 # Rows with longer windows are not held to what is said of the slower speed, where all their instants may be tried.
 WIDEST = 20_000
@@ -196,20 +200,20 @@ class Player:
         if is_passed_over(line):
             return None
         if self.bench is None:
-            expected, first, numbers = read_line(line, BOUND_FORMS, 'exact or linear K')
+            expected, first, numbers = read_line(line, BOUND_FORMS, 'exact or linear K or staircase K')
         else:
             expected, first, numbers = read_line(line, CALL_FORMS, 'frame, admit, dismiss or inquire')
         if expected is not None:
             return f'not a call at line {self.number}: expected {expected}'
         if self.bench is None:
-            return self.name_bound(numbers)
+            return self.name_bound(first, numbers)
         return answer_text(self.call(first, numbers))
 
-    def name_bound(self, numbers):
-        """Makes the bench by the accuracy told, or in exact steps where none is."""
+    def name_bound(self, first, numbers):
+        """Makes the bench by the bound of a word and the accuracy told, or in exact steps where none is."""
         if numbers and (numbers[0] < 1 or numbers[0] > MOST_ACCURACY):
             return answer_text(('refused', BAD_ACCURACY, 0))
-        self.bench = self.make_bench(LINEAR_TAILS[numbers[0]] if numbers else EXACT_STEPS)
+        self.bench = self.make_bench(BOUNDS[first][numbers[0]] if numbers else EXACT_STEPS)
         return None
 
     def call(self, first, numbers):
@@ -255,7 +259,7 @@ def check_standing(bench):
         assert rest is not None and exact is not None and exact <= rest
         if window(row) <= WIDEST:
             assert no_later(rest, kept_slow_rest(row, above, bound.accuracy))
-        if bound is not EXACT_STEPS:
+        if bound is LINEAR_TAILS.get(bound.accuracy):
             finer = LINEAR_TAILS[min(bound.accuracy + 1, MOST_ACCURACY)]
             assert no_later(first_rest(bench.on, finer, row, above), rest)
 

@@ -30,6 +30,10 @@ class Source:
 
     def __init__(self, seed):
         """The source of a seed."""
+        self.turn_to(seed)
+
+    def turn_to(self, seed):
+        """Goes on as the source of another seed, whatever was made before."""
         self.random = random.Random(seed).random
 
     def below(self, count):
@@ -72,7 +76,7 @@ class Source:
         return rows
 
     def utilisation(self, accuracy=0):
-        """A utilisation around 1 in hundredths; for a linear tail also one that is around 1 by its amounts."""
+        """A utilisation around 1 in hundredths; for another bound also one that is around 1 by its amounts."""
         hundredths = self.between(70, 120)
         if accuracy and self.below(2):
             return hundredths * accuracy // (accuracy + 1)

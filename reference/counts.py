@@ -1,8 +1,8 @@
 """Counts by docs/RULES.md alone and by brute force: each amount from its definition, each instant tried in turn.
 
 A row is a tuple (C, D, T, J) of valid numbers, `above` a tuple of the rows above it in rank order, a frame and
-an instant are plain numbers, and a bound is EXACT_STEPS, one of LINEAR_TAILS, or `Batches` of an accuracy and a size,
-the bound that docs/OWN_BOUND.md brings. All numbers are whole.
+an instant are plain numbers, and a bound is EXACT_STEPS, one of LINEAR_TAILS or of STAIRCASES, or `Batches` of an
+accuracy and a size, the bound that docs/OWN_BOUND.md brings. All numbers are whole.
 
 Nothing here knows that test points are enough, that demand never falls, or what one bound tells about another:
 a first rest is the least instant that was tried and found one. `check_case` holds the counts of a case to what
@@ -16,6 +16,9 @@ from leaves import HORIZON, MOST_ACCURACY, MOST_ROWS
 
 # The checks that go from instant to instant end after so many.
 FAR = 600
+
+# The powers of two that may be the grain of a staircase: no row has more jobs up to the horizon.
+POWERS_OF_TWO = [2 ** exponent for exponent in range(26)]
 
 
 # --- Rows --------------------------------------------------------------------------------------------------
@@ -104,6 +107,50 @@ class LinearTail:
         return [corner for corner in corners if corner < end]
 
 
+class Staircase:
+    """The bound that counts jobs one by one for a while, and then in grains that grow, made with an accuracy."""
+
+    def __init__(self, accuracy):
+        """The staircase of an accuracy."""
+        assert 1 <= accuracy <= MOST_ACCURACY
+        self.accuracy = accuracy
+        self.most = 26 * accuracy
+        self.known = {}  # numbers of jobs that were rounded already
+
+    def grain(self, jobs):
+        """The greatest power of two of which as many as the accuracy are no more than the jobs: all are tried."""
+        return max(power for power in POWERS_OF_TWO if self.accuracy * power <= jobs)
+
+    def rounded(self, jobs):
+        """The jobs that are counted for a number of jobs: itself up to the accuracy, else up to a whole grain."""
+        if jobs not in self.known:
+            grain = 1 if jobs <= self.accuracy else self.grain(jobs)
+            self.known[jobs] = -(-jobs // grain) * grain
+        return self.known[jobs]
+
+    def amount(self, frame, row, instant):
+        """f(t) in parts."""
+        work, _, period, jitter = row
+        return frame * work * self.rounded(-(-(instant + jitter) // period))
+
+    def amounts(self, frame, row, instants):
+        """f(t) at each of some instants, as `amount` has it, written out for speed."""
+        work, _, period, jitter = row
+        each, rounded = frame * work, self.rounded
+        return [each * rounded(-(-(instant + jitter) // period)) for instant in instants]
+
+    def corners_before(self, row, end):
+        """The corners that are smaller than an instant: r x T - J for each r that is counted as itself; all tried."""
+        _, _, period, jitter = row
+        corners = []
+        number = 1
+        while number * period - jitter < end:
+            if self.rounded(number) == number:
+                corners.append(number * period - jitter)
+            number += 1
+        return corners
+
+
 class Batches:
     """The bound of docs/OWN_BOUND.md: jobs are counted in batches of a size once they fill as many as its accuracy."""
 
@@ -134,6 +181,11 @@ class Batches:
 
 EXACT_STEPS = ExactSteps()
 LINEAR_TAILS = {accuracy: LinearTail(accuracy) for accuracy in range(1, MOST_ACCURACY + 1)}
+STAIRCASES = {accuracy: Staircase(accuracy) for accuracy in range(1, MOST_ACCURACY + 1)}
+
+# The staircase of accuracy 2, worked by hand at a row of period 4 without jitter.
+assert [STAIRCASES[2].rounded(jobs) for jobs in range(1, 10)] == [1, 2, 3, 4, 6, 6, 8, 8, 12]
+assert STAIRCASES[2].corners_before((1, 4, 4, 0), 41) == [4, 8, 12, 16, 24, 32]
 
 
 # --- Rests -------------------------------------------------------------------------------------------------
@@ -296,12 +348,11 @@ def check_taken_away(frame, bound, row, above, ranks):
             assert no_later(first_rest(frame, bound, row, above[:rank - 1] + above[rank:]), rest)
 
 
-def check_bracket(frame, row, above, accuracy):
-    """By a linear tail the row rests no earlier than in exact steps, and no later than at the slower speed."""
-    rest = first_rest(frame, LINEAR_TAILS[accuracy], row, above)
-    assert no_later(first_rest(frame, EXACT_STEPS, row, above), rest)
-    assert no_later(rest, slow_rest(row, above, accuracy))
-    assert no_later(first_rest(frame, EXACT_STEPS, row, above), slow_rest(row, above, accuracy))
+def check_bracket(frame, bound, row, above):
+    """By a bound the row rests no earlier than in exact steps, and no later than at the slower speed of its accuracy."""
+    exact, rest = first_rest(frame, EXACT_STEPS, row, above), first_rest(frame, bound, row, above)
+    slow = slow_rest(row, above, bound.accuracy)
+    assert no_later(exact, rest) and no_later(rest, slow) and no_later(exact, slow)
 
 
 def check_accuracies(frame, row, above, accuracies):
@@ -322,13 +373,15 @@ def check_least_accuracy(frame, row, above):
 def check_case(frame, row, above, accuracy, in_full=True):
     """Holds the counts of a row below others to docs/RULES.md.
 
-    In full, that is by each linear tail, with each row above taken away in turn, and by the laws of the bounds at
-    each row above; else by the tail of this accuracy and the next, and at one row above.
+    In full, that is by each linear tail and each staircase, with each row above taken away in turn, and by the laws of
+    the bounds at each row above; else by the tails of this accuracy and the next and the staircase of this one, and at
+    one row above. A staircase that is more accurate than another is not promised to be nowhere later.
     """
     assert len(above) < MOST_ROWS
-    bounds = (EXACT_STEPS, LINEAR_TAILS[accuracy])
+    bounds = (EXACT_STEPS, LINEAR_TAILS[accuracy], STAIRCASES[accuracy])
     check_steps(frame, row, above)
-    check_bracket(frame, row, above, accuracy)
+    for bound in (*bounds[1:], *(STAIRCASES.values() if in_full else ())):
+        check_bracket(frame, bound, row, above)
     rest, response = first_rest(frame, EXACT_STEPS, row, above), response_time(row, above)
     assert (rest is None) == (response is None)
     assert response is None or response == rest + row[3] <= row[1]

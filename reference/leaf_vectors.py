@@ -226,7 +226,7 @@ def refusals_of_the_heading():
     for frame in (0, 16_777_217, 16_777_218, 33_554_432, HALF, HALF + 12, TOP - 1, TOP):
         refuse(write_heading(frame, 0, 0) + rest, 1, 0)
         refuse(write_heading(frame, 1, 3) + GOOD_ROW + GOOD_FINDING + write_end(3), 1, 0)
-    for bound in (2, 3, 4, 64, 65, 127, 128, 129, 254, 255):
+    for bound in (3, 4, 64, 65, 127, 128, 129, 254, 255):
         refuse(write_heading(12, bound, 0) + rest, 20, 0)
         refuse(write_heading(12, bound, 1) + GOOD_ROW + GOOD_FINDING + write_end(3), 20, 0)
     for accuracy in (1, 2, 3, 63, 64, 65, 127, 128, 255):
@@ -235,7 +235,7 @@ def refusals_of_the_heading():
         refuse(write_heading(12, 1, accuracy) + rest, 3, 0)
     # Refused although nothing follows the heading.
     refuse(write_heading(0, 0, 0), 1, 0)
-    refuse(write_heading(12, 2, 0), 20, 0)
+    refuse(write_heading(12, 3, 0), 20, 0)
     refuse(write_heading(12, 0, 1), 3, 0)
 
 
@@ -449,8 +449,8 @@ def pairs_of_faults():
     refuse(write_row(0, 0, 0, 0), 15, 0)
     refuse(write_finding(TOP, 0), 15, 0)
     refuse(write_end(7), 15, 0)
-    refuse(HEAD + write_heading(0, 2, 65), 15, 7)
-    refuse(HEAD + GOOD_ROW + GOOD_FINDING + write_heading(0, 2, 65), 15, 33)
+    refuse(HEAD + write_heading(0, 3, 65), 15, 7)
+    refuse(HEAD + GOOD_ROW + GOOD_FINDING + write_heading(0, 3, 65), 15, 33)
     refuse(HEAD + GOOD_ROW + GOOD_FINDING + write_row(0, 0, 0, 0), 15, 33)
 
     # A full table (9) before a cut (13).
@@ -477,10 +477,10 @@ def pairs_of_faults():
     refuse(FULL_BODY + write_finding(TOP, 0), 16, 839)
 
     # A cut (13) before the fields.
-    bad_heading = write_heading(0, 2, 65)
+    bad_heading = write_heading(0, 3, 65)
     for length in range(1, 7):
         refuse(bad_heading[:length], 13, length)
-        refuse(write_heading(12, 2, 65)[:length], 13, length)
+        refuse(write_heading(12, 3, 65)[:length], 13, length)
         refuse(write_heading(TOP, 1, 3)[:length], 13, length)
     for row in ((0, 0, 0, 0), (9, 4, 4, 0), (1, 5, 4, 0), (1, TOP, TOP, 0), (1, 5, 5, 0)):
         for length in (1, 4, 5, 8, 9, 12, 13, 16):
@@ -495,12 +495,12 @@ def pairs_of_faults():
 
     # The fields of a heading: 1 before 20 before 3.
     for frame in (0, HORIZON + 1, TOP):
-        refuse(write_heading(frame, 2, 3), 1, 0)
+        refuse(write_heading(frame, 3, 3), 1, 0)
         refuse(write_heading(frame, 1, 0), 1, 0)
         refuse(write_heading(frame, 0, 65), 1, 0)
         refuse(write_heading(frame, 255, 255), 1, 0)
     for accuracy in (0, 1, 64, 65, 255):
-        refuse(write_heading(12, 2, accuracy), 20, 0)
+        refuse(write_heading(12, 3, accuracy), 20, 0)
         refuse(write_heading(12, 255, accuracy), 20, 0)
 
     # The fields of a row, 4 to 8, at frame 12.
@@ -817,6 +817,63 @@ def random_bytes():
         add(HEAD + bytes(pick(b'FRAZ\x00\x00\x00\x00\x01\x02\x04\x0c\xff') for _ in range(below(60))))
 
 
+# --- Leaves by the staircase -------------------------------------------------------------------------------
+
+
+def staircase_leaves():
+    """Leaves of bound 2, sound and damaged, and its accuracies at their ends."""
+    worked = write_leaf(12, 2, 3, [(1, 4, 4, 0), (2, 6, 6, 1), (3, 12, 12, 0)], [(1, 1), (3, 1), (10, 4)])
+    add(worked, 'F 12 2 3 R 1 4 4 0 R 2 6 6 1 R 3 12 12 0 A 1 1 A 3 1 A 10 4 Z 7')
+    assert worked[:7] == bytes.fromhex('46 0000000C 02 03')
+    for accuracy in range(1, 65):
+        accept(12, 2, accuracy, [], [])
+    for accuracy in (1, 2, 63, 64):
+        accept(12, 2, accuracy, [(1, 4, 4, 0)], [(1, 1)])
+        accept(12, 2, accuracy, TWO_ROWS, TWO_FINDINGS)
+    for frame in (1, 2, 255, 256, 65_535, 65_536, 16_777_215, HORIZON):
+        accept(frame, 2, 64, [(1, 1, 1, 0)], [(1, 1)])
+    for count in range(33):
+        accept(FULL_FRAME, 2, 64 - count, FULL_ROWS[:count], FULL_FINDINGS[:count])
+
+    # An accuracy that is none, alone and with other faults.
+    for accuracy in (0, 65, 66, 127, 128, 129, 192, 254, 255):
+        refuse(write_heading(12, 2, accuracy), 3, 0)
+        refuse(write_heading(12, 2, accuracy) + write_end(1), 3, 0)
+        refuse(write_heading(12, 2, accuracy) + GOOD_ROW + GOOD_FINDING + write_end(3), 3, 0)
+        refuse(write_heading(HORIZON, 2, accuracy) + b'x', 3, 0)
+        for frame in (0, HORIZON + 1, TOP):
+            refuse(write_heading(frame, 2, accuracy), 1, 0)
+        refuse(HEAD + write_heading(12, 2, accuracy), 15, 7)
+        for length in range(1, 7):
+            refuse(write_heading(12, 2, accuracy)[:length], 13, length)
+    for frame in (0, HORIZON + 1, HALF, TOP):
+        refuse(write_heading(frame, 2, 3) + write_end(1), 1, 0)
+
+    # What else may be wrong with such a leaf, from its rows on to its end, and each of its bits turned.
+    head = write_heading(12, 2, 64)
+    refuse(head, 13, 7)
+    refuse(head + write_row(0, 4, 4, 0), 4, 7)
+    refuse(head + write_row(5, 4, 4, 0), 5, 7)
+    refuse(head + write_row(1, 5, 4, 0), 6, 7)
+    refuse(head + write_row(1, 4, HORIZON + 1, 0), 7, 7)
+    refuse(head + write_row(1, 4, 5, 0), 8, 7)
+    refuse(write_heading(FULL_FRAME, 2, 5) + FULL_TABLE[7:] + write_row(*FULL_ROWS[0]), 9, 551)
+    refuse(head + b'S', 14, 7)
+    refuse(head + head, 15, 7)
+    refuse(head + GOOD_FINDING, 16, 7)
+    refuse(head + GOOD_ROW + write_finding(1, 0), 17, 24)
+    refuse(head + write_end(1) + b'Z', 18, 12)
+    sound = write_leaf(24, 2, 3, TWO_ROWS, TWO_FINDINGS)
+    for length in range(len(sound)):
+        refuse(sound[:length], 13, length)
+    for offset in range(7):
+        for bit in range(8):
+            add(sound[:offset] + bytes([sound[offset] ^ 1 << bit]) + sound[offset + 1:])
+
+    # Each byte of the shortest one changed to every value.
+    changed.append(write_leaf(12, 2, 64, [], []))
+
+
 # --- All of them -------------------------------------------------------------------------------------------
 
 
@@ -837,6 +894,7 @@ def make_questions():
     every_row_count()
     every_entry_out_of_place()
     damaged_leaves()
+    staircase_leaves()
 
 
 def check_spread(texts):

@@ -10,7 +10,7 @@ where that is a rest, it halves the gap, and else it leaps on from there.
 
 from dataclasses import dataclass
 
-from counts import exact_demand, rests, window
+from counts import Staircase, exact_demand, rests, window
 
 # So many leaps are made in one go.
 LEAPS = 16
@@ -42,7 +42,9 @@ def next_point(bound, row, above, after):
     for other in above:
         _, _, period, jitter = other
         number = (after + jitter) // period + 1
-        if number <= bound.most:
+        if isinstance(bound, Staircase):  # its next corner is at the next number of jobs that is counted as itself
+            end = min(end, bound.rounded(number) * period - jitter)
+        elif number <= bound.most:
             end = min(end, number * period - jitter)
     return end
 

@@ -72,11 +72,11 @@ def check_heading(frame, bound, accuracy):
     """The refusal of a heading's fields, or None."""
     if frame == 0 or frame > HORIZON:
         return BAD_FRAME
-    if bound > 1:
+    if bound > 2:
         return UNKNOWN_BOUND
     if bound == 0 and accuracy != 0:
         return BAD_ACCURACY
-    if bound == 1 and (accuracy < 1 or accuracy > MOST_ACCURACY):
+    if bound in (1, 2) and (accuracy < 1 or accuracy > MOST_ACCURACY):
         return BAD_ACCURACY
     return None
 

@@ -1,4 +1,4 @@
-"""Makes the stored questions about single rows with long windows, by linear tails and by batches.
+"""Makes the stored questions about single rows with long windows, by linear tails, by batches and by staircases.
 
     python3 reference/long_vectors.py > questions
     python3 reference/long_vectors.py --answers > answers
@@ -9,6 +9,8 @@ The questions below a line `=== rows`, and their answers, have the form of row_v
 their answers are the finding by that bound, and both findings with the gap between them:
 
     FINDING, FINDING FINDING GAP
+
+Those below a line `=== rows staircase` at the end, and their answers, have the form of row_vectors.py too.
 
 Most rows stand below others that leave little time, so that the exact demand is served late, and by a bound later
 still. Of others the points are very many, or very few in a very long window, or the first rest or a test point stands
@@ -24,12 +26,12 @@ import sys
 sys.dont_write_bytecode = True  # leave no cache beside the sources
 
 from chance import Source, divisors, work_out  # noqa: E402
-from counts import EXACT_STEPS, LINEAR_TAILS, Batches, exact_demand, steps, window  # noqa: E402
+from counts import EXACT_STEPS, LINEAR_TAILS, STAIRCASES, Batches, exact_demand, steps, window  # noqa: E402
 from leaps import line_served, walk  # noqa: E402
 from leaves import HORIZON, MOST_ROWS, check_row  # noqa: E402
 from pieces import check_pieces, check_rows, finding, least_accuracy, response_time, slow_rest  # noqa: E402
 from refusals import BAD_FRAME, FULL_TABLE, OFF_FRAME, refused_at  # noqa: E402
-from row_vectors import line_of, or_dash, refusal_of  # noqa: E402
+from row_vectors import line_of, or_dash, refusal_of, told_together  # noqa: E402
 
 # Frames of which a row may have the whole for its period.
 FRAMES = [27_720, 55_440, 65_536, 332_640, 720_720, 1_000_000, 1_441_440, 14_414_400, HORIZON]
@@ -48,6 +50,9 @@ OF_FIRST = {PAST: 5, HALVED: 3}
 # The bound by batches has so many of each sort.
 OF_BATCHES = {PAST: 40, HALVED: 30, AGAIN: 10}
 
+# That by the staircase of each accuracy has so many.
+OF_STAIRS = {PAST: 1, HALVED: 1, INSIDE: 1}
+
 # A row that does not rest by so late an instant misses.
 FAR = 150_000
 
@@ -55,6 +60,7 @@ source = Source(20_260_311)
 
 row_cases = {}  # (frame, accuracy, rows), in the order added; the last row is the one asked about
 batch_cases = {}  # (frame, (accuracy, size), rows)
+stair_cases = {}  # as row_cases, of a staircase
 
 
 def add(cases, frame, bound, rows):
@@ -304,16 +310,62 @@ def batches_at_the_ends():
         add(batch_cases, frame, (1, 2), rows)
 
 
+# --- Staircases --------------------------------------------------------------------------------------------
+
+
+def every_staircase():
+    """Rows that rest late by the staircase of each accuracy; answers how many of each sort."""
+    return {
+        f'staircase {accuracy}': late_rows(stair_cases, lambda: (bound, accuracy), OF_STAIRS, WIDE)
+        for accuracy, bound in STAIRCASES.items()
+    }
+
+
+def stairs_at_round_numbers():
+    """As round_numbers has them, by staircases."""
+    for end in ENDS[::2]:
+        at = end + source.between(-1, 2)
+        row = None
+        while row is None:
+            frame = source.pick([332_640, 720_720, 1_441_440, HORIZON])
+            above = many_corners(frame, source.pick([end, end - 1, end + 1]))
+            row = resting_at(frame, above, at)
+        work, deadline, period, _ = row
+        row = (work, source.pick([deadline, deadline + source.below(at)]), period, 0)
+        add(stair_cases, frame, source.pick([1, 2, source.between(1, 64)]), above + (row,))
+
+
+def stairs_far_apart():
+    """Windows up to the horizon: few rows of long periods below a short one, whose jobs are counted in large grains."""
+    for number in range(16):
+        period = 2 ** source.between(6, 12)
+        above = [(source.between(1, period // 3), period, period, source.below(period // 3))]
+        for _ in range(source.pick([1, 3, 8])):
+            period = 2 ** source.between(16, 23)
+            work = source.between(1, period // 40)
+            above.append((work, period, period, source.pick([0, source.below(period - work + 1)])))
+        length = HORIZON - source.pick([0, 0, 1, source.below(HORIZON // 2)])
+        work = length - sum(steps(other, length) for other in above)
+        work = max(1, work - source.pick([-1, 0, source.below(length // 2), source.below(length // 2)]))
+        row = (work, HORIZON, HORIZON, HORIZON - length)
+        if work + HORIZON - length <= HORIZON:
+            add(stair_cases, HORIZON, source.pick([1, 2, source.between(1, 64), 64]), tuple(above) + (row,))
+
+
 # --- All of them -------------------------------------------------------------------------------------------
 
 
 def make_vectors():
-    """Adds every question; answers how many there are of each sort, by the accuracy of a tail, or by batches."""
+    """Adds every question; answers how many there are of each sort, by the accuracy of a tail, by batches or stairs."""
     found = every_accuracy()
     round_numbers()
     crowded_tails()
     far_apart()
     batches_at_the_ends()
+    source.turn_to(20_261_129)
+    found |= every_staircase()
+    stairs_at_round_numbers()
+    stairs_far_apart()
     tails = [found[accuracy] for accuracy in LINEAR_TAILS]
     assert all(sorts[PAST] >= 5 and sorts[HALVED] >= 3 for sorts in tails)
     assert sum(sorts[PAST] for sorts in tails) >= 300 and sum(sorts[HALVED] for sorts in tails) >= 150
@@ -350,9 +402,15 @@ def batch_answer(case):
         return ', '.join(2 * [refused_at(*refused)])
     row, above, bound = rows[-1], rows[:-1], Batches(*numbers)
     check_pieces(frame, bound, row, above)
-    exact = finding(frame, EXACT_STEPS, row, above)
-    found = finding(frame, bound, row, above)
-    return ', '.join([or_dash(*found), or_dash(*exact, *found, gap(exact, found))])
+    return told_together(frame, bound, row, above, finding)
+
+
+def stair_answer(case):
+    """The answer to a question by a staircase; its counts are checked on the way."""
+    frame, accuracy, rows = case
+    row, above, bound = rows[-1], rows[:-1], STAIRCASES[accuracy]
+    check_pieces(frame, bound, row, above)
+    return told_together(frame, bound, row, above, finding)
 
 
 def batch_line(case):
@@ -372,13 +430,14 @@ def main():
         sys.exit('use: long_vectors.py [--answers | --sorts]')
     found = make_vectors()
     if sys.argv[1:] == ['--sorts']:
-        print(f'{len(row_cases)} rows, {len(batch_cases)} by batches')
+        print(f'{len(row_cases)} rows, {len(batch_cases)} by batches, {len(stair_cases)} by staircases')
         for bound, sorts in found.items():
             print(bound, sorts)
         return
     for heading, cases, line, answer in (
         ('=== rows', row_cases, line_of, row_answer),
         ('=== rows batches', batch_cases, batch_line, batch_answer),
+        ('=== rows staircase', stair_cases, line_of, stair_answer),
     ):
         print(heading)
         lines = map(line, cases) if sys.argv[1:] == [] else work_out(answer, list(cases), weight)

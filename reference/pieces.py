@@ -1,9 +1,9 @@
 """Counts by docs/RULES.md of rows whose windows are too long for each instant to be tried: piece by piece.
 
 Words and forms are those of counts.py. A *piece* has the instants after one test point up to the next one. On it each
-amount goes straight, by each of the bounds known here: exact steps and batches have a corner wherever they rise, and
-rise nowhere else, and a linear tail is one line past its last corner. So the demand goes straight on it too, and two
-amounts, at the first and at the last instant of the piece, tell where it is served first.
+amount goes straight, by each of the bounds known here: exact steps, batches and staircases have a corner wherever they
+rise, and rise nowhere else, and a linear tail is one line past its last corner. So the demand goes straight on it too,
+and two amounts, at the first and at the last instant of the piece, tell where it is served first.
 
 No piece is passed over, and nothing is taken from one piece for the next. What is counted so is held to counts.py
 wherever a window is short enough for that (`check_pieces`).

@@ -16,6 +16,11 @@ time in exact steps, the least accuracy of a linear tail by which the row meets,
 exact steps at speed k / (k + 1). A finding is the first rest and the points tested. `-` stands where there is none. In
 the place of each stands `refused NUMBER at POSITION` where it is refused by docs/REFUSALS.md.
 
+Behind these come questions below a line `=== rows staircase`. They have the same form, and their accuracy is that of a
+staircase; they are answered by the finding by it, and by both findings with the gap between them:
+
+    FINDING, FINDING FINDING GAP
+
 The same lines come each time. Where this file names the answer to a question, it was taken from docs/RULES.md or
 docs/REFUSALS.md by hand, and the answers are held to it. All counts of a row are held to what docs/RULES.md says of them.
 """
@@ -28,6 +33,7 @@ from chance import ANY, LOOSE, NEARLY_LOOSE, Source, divisors, work_out  # noqa:
 from counts import (  # noqa: E402
     EXACT_STEPS,
     LINEAR_TAILS,
+    STAIRCASES,
     check_case,
     finding,
     first_rest,
@@ -44,17 +50,18 @@ TOP = 4_294_967_295  # the largest number of 32 bits
 source = Source(20_240_302)
 
 vectors = {}  # (frame, accuracy, rows) to the answer that is known beforehand, or None; in the order added
+stairs = {}  # the same of a staircase
 
 
-def add(frame, accuracy, rows, expected=None):
+def add(frame, accuracy, rows, expected=None, to=vectors):
     """Adds a vector, unless it is there already; the last row is the one asked about."""
     rows = tuple(rows)
     assert rows and 1 <= accuracy <= 64
     for row in rows:
         assert check_row(row[2], *row) is None
     case = (frame, accuracy, rows)
-    if vectors.get(case) is None:
-        vectors[case] = expected
+    if to.get(case) is None:
+        to[case] = expected
 
 
 def refuse(frame, accuracy, rows, number, position):
@@ -154,11 +161,11 @@ def windows_at_the_edge():
             add_with_window(frame, accuracy, above, widest, slow + source.pick([-1, 0]))
 
 
-def add_with_window(frame, accuracy, above, row, length):
+def add_with_window(frame, accuracy, above, row, length, to=vectors):
     """Adds a row with another deadline, by which its window has a length, where that is a row."""
     work, _, period, jitter = row
     if work <= length and length + jitter <= period:
-        add(frame, accuracy, above + ((work, length + jitter, period, jitter),))
+        add(frame, accuracy, above + ((work, length + jitter, period, jitter),), to=to)
 
 
 def rows_past_the_tails():
@@ -271,6 +278,85 @@ def refusals():
         refuse(frame, 2, [(1, 1, 1, 0), (1, period, period, period - 1), off], 8, 2)
 
 
+# --- By staircases -----------------------------------------------------------------------------------------
+
+
+def worked_stairs():
+    """The worked table of docs/RULES.md, whose rows ask for 3 jobs at most, and rows below one of period 4."""
+    add(12, 1, [FIRST, SECOND, THIRD], '11 4, 10 4 11 4 1', stairs)
+    for accuracy in range(2, 65):
+        add(12, accuracy, [FIRST, SECOND, THIRD], '10 4, 10 4 10 4 0', stairs)
+    for accuracy in (1, 2, 64):
+        add(12, accuracy, [FIRST, SECOND], '3 1, 3 1 3 1 0', stairs)
+        add(12, accuracy, [FIRST], '1 1, 1 1 1 1 0', stairs)
+    # By accuracy 2 the jobs of a row are counted as 1, 2, 3, 4, 6, 6, 8, 8, 12.
+    for length, work, answer in (
+        (16, 12, '16 4, 16 4 16 4 0'), (24, 13, '19 5, 18 5 19 5 1'), (24, 18, '24 5, 24 6 24 5 0'),
+        (32, 19, '27 6, 26 7 27 6 1'), (36, 25, '- 7, 34 9 - 7 -'),
+    ):
+        add(720, 2, [FIRST, (work, length, 720, 0)], answer, stairs)
+
+
+def every_staircase():
+    """Rows by the staircase of each accuracy, and below each number of others."""
+    for accuracy in range(1, 65):
+        for above, most in ((source.between(1, 10), 60), (source.between(1, 4), 400))[accuracy % 2:]:
+            frame, rows, row = rows_and_room(above, most, source.utilisation(accuracy))
+            add(frame, accuracy, rows + (row,), to=stairs)
+    for above in range(32):
+        accuracy = random_accuracy()
+        frame, rows, row = rows_and_room(above, 120, source.utilisation(accuracy))
+        add(frame, accuracy, rows + (row,), to=stairs)
+
+
+def late_by_staircase(accuracy):
+    """A frame, rows and one below them that rests later by a staircase than in exact steps, and when it does by both."""
+    while True:
+        frame = source.pick([5040, 27_720, 720_720])
+        share = source.between(30, 98) * accuracy // (accuracy + 1)
+        above = tuple(source.table(source.between(1, 3), divisors(frame, 2, source.pick([3, 6, 12])), share, LOOSE))
+        row = (source.between(accuracy, 20 * accuracy), frame, frame, source.pick([0, source.below(frame // 2)]))
+        widest = row[:1] + (min(frame, 6000 + row[3]),) + row[2:]
+        exact, rest = (first_rest(frame, bound, widest, above) for bound in (EXACT_STEPS, STAIRCASES[accuracy]))
+        if rest is not None and rest > exact:
+            return frame, above, row, exact, rest
+
+
+def staircase_windows():
+    """Rows that rest later by the staircase of each accuracy, in windows that end there, before it, or where they rest in
+    exact steps.
+    """
+    for accuracy in range(1, 65):
+        frame, above, row, _, rest = late_by_staircase(accuracy)
+        add_with_window(frame, accuracy, above, row, rest + source.below(2) * source.below(40), stairs)
+        frame, above, row, exact, rest = late_by_staircase(accuracy)
+        add_with_window(frame, accuracy, above, row, source.pick([rest - 1, rest, exact]), stairs)
+
+
+def refused_stairs():
+    """Frames, tables and rows that are refused, and frames at their ends."""
+    on, off = (1, 4, 4, 0), (1, 5, 5, 0)
+    for frame, rows, number, position in (
+        (0, [on], 1, 0), (HORIZON + 1, [on, off], 1, 0), (12, 33 * [on] + [on], 9, 0), (12, 32 * [on] + [on], 9, 0),
+        (12, [off, on], 8, 1), (12, [on, off], 8, 2), (13, [on], 8, 1), (12, 31 * [on] + [off], 8, 32),
+    ):
+        add(frame, source.between(1, 64), rows, ', '.join(2 * [refused_at(number, position)]), stairs)
+    for accuracy in (1, 2, 64):
+        add(1, accuracy, 32 * [(1, 1, 1, 0)], to=stairs)
+        add(HORIZON, accuracy, 31 * [(1, HORIZON, HORIZON, HORIZON - 1)] + [(1, 40, HORIZON, 0)], to=stairs)
+        add(HORIZON, accuracy, 3 * [(1, 1, 1, 0)] + [(5, 30, HORIZON, 0)], to=stairs)
+        add(HORIZON, accuracy, 32 * [(1, HORIZON, HORIZON, 0)], '32 1, 32 1 32 1 0', stairs)
+
+
+def make_stairs():
+    """Adds every question by a staircase, by chance of their own."""
+    source.turn_to(20_261_128)
+    worked_stairs()
+    every_staircase()
+    staircase_windows()
+    refused_stairs()
+
+
 # --- All of them -------------------------------------------------------------------------------------------
 
 
@@ -286,6 +372,7 @@ def make_vectors():
     frames_at_the_ends()
     wide_rows()
     refusals()
+    make_stairs()
 
 
 def off_frame(frame, row):
@@ -352,6 +439,24 @@ def answer_of(case):
     ])
 
 
+def told_together(frame, bound, row, above, find):
+    """The finding of a row by a bound, and that in exact steps, the same, and the gap, by what finds them."""
+    exact, found = find(frame, EXACT_STEPS, row, above), find(frame, bound, row, above)
+    gap = None if exact[0] is None or found[0] is None else found[0] - exact[0]
+    assert gap is None or gap >= 0
+    return f'{or_dash(*found)}, {or_dash(*exact, *found, gap)}'
+
+
+def stairs_answer(case):
+    """The answer to a question by a staircase; its counts are checked on the way."""
+    frame, accuracy, rows = case
+    refused = refusal_of(frame, rows)
+    if refused is not None:
+        return ', '.join(2 * [refused_at(*refused)])
+    check_case(frame, rows[-1], rows[:-1], accuracy)
+    return told_together(frame, STAIRCASES[accuracy], rows[-1], rows[:-1], finding)
+
+
 def kind_of(answer):
     """By which counts the row of an answer meets, or that it is refused."""
     exact, tail = answer.split(', ')[:2]
@@ -370,13 +475,10 @@ def line_of(case):
     return ' '.join(str(number) for number in (frame, accuracy, *(number for row in rows for number in row)))
 
 
-def main():
-    """Prints the questions, or the answers."""
-    if sys.argv[1:] not in ([], ['--answers']):
-        sys.exit('use: row_vectors.py [--answers]')
-    make_vectors()
+def print_rows(answers):
+    """Prints the questions by linear tails, or the answers."""
     print('=== rows')
-    if sys.argv[1:] == []:
+    if not answers:
         for case in vectors:
             print(line_of(case))
         return
@@ -387,6 +489,31 @@ def main():
         print(answer)
     counts = {kind: kinds.count(kind) for kind in set(kinds)}
     assert len(counts) == 4 and min(counts.values()) >= 100
+
+
+def print_stairs(answers):
+    """Prints the questions by staircases, or the answers."""
+    print('=== rows staircase')
+    if not answers:
+        for case in stairs:
+            print(line_of(case))
+        return
+    told = work_out(stairs_answer, list(stairs), weight)
+    for (case, expected), answer in zip(stairs.items(), told):
+        assert expected in (None, answer), f'{line_of(case)}: {answer}, not {expected}'
+        print(answer)
+    later = [answer for answer in told if not answer.endswith((' 0', ' -')) and 'refused' not in answer]
+    misses = [answer for answer in told if answer.startswith('-') and ', -' not in answer]
+    assert len(later) >= 90 and len(misses) >= 30
+
+
+def main():
+    """Prints the questions, or the answers."""
+    if sys.argv[1:] not in ([], ['--answers']):
+        sys.exit('use: row_vectors.py [--answers]')
+    make_vectors()
+    for print_section in (print_rows, print_stairs):
+        print_section(sys.argv[1:] == ['--answers'])
 
 
 if __name__ == '__main__':

@@ -1,6 +1,7 @@
 """Recipes for scripts that are made up by chance: rows come and go, and are asked for.
 
-Each takes a source of chance and the accuracy of the bound, 0 for exact steps, and gives a script (scripts.py).
+Each takes a source of chance and the accuracy of the bound, 0 for exact steps or one of STAIRS for a staircase, and gives
+a script (scripts.py).
 """
 
 from chance import LOOSE, NEARLY_LOOSE, divisors

@@ -4,7 +4,7 @@ Each recipe takes a source of chance, which only spells calls in other ways, and
 """
 
 from leaves import HORIZON
-from scripts import HALF, TOP, Script
+from scripts import HALF, STAIRS, TOP, Script
 
 FIRST, SECOND, THIRD = (1, 4, 4, 0), (2, 6, 6, 1), (3, 12, 12, 0)
 CROWD = (5, 6, 6, 0)
@@ -278,6 +278,49 @@ def rows_at_the_edge(source, accuracy):
         script.admit(1, (deadline - jitter + 1, deadline, period, jitter), 5)
         script.admit(1, (work, period + 1, period, jitter), 6)
         script.admit(1, (work, deadline, 192, jitter), 8)
+    return script
+
+
+def worked_stairs(source, accuracy):
+    """The worked table by the staircases of accuracy 1 and 2.
+
+    By accuracy 1 a row that asks for three jobs is counted with four, so that E rests at 11; by accuracy 2 it rests as in
+    exact steps.
+    """
+    script = Script(source, accuracy)
+    rest = {1: 11, 2: 10}[accuracy]
+    script.frame(12, 'done')
+    for _ in range(4):
+        script.admit(1, FIRST, 'done')
+        script.admit(2, SECOND, 'done')
+        script.admit(3, (3, rest - 1, 12, 0), 'refused 21 newcomer overload at rank 3')
+        script.admit(3, THIRD, 'done')
+        script.inquire(1, told(FIRST, 1, 1))
+        script.inquire(2, told(SECOND, 3, 1))
+        script.inquire(3, told(THIRD, rest, 4))
+        script.admit(1, CROWD, 'refused 11 overload at rank 2')
+        script.frame(12, 'refused 2 standing rows')
+        for rank in (3, 2, 1):
+            script.dismiss(rank, 'done')
+    return script
+
+
+def stairs_one_by_one(source):
+    """A row below one of period 4 that asks for 1 by each job: by accuracy 2 that is 1, 2, 3, 4, 6, 6, 8, 8, 12."""
+    script = Script(source, STAIRS[2])
+    script.frame(720, 'done')
+    script.admit(1, (1, 4, 4, 0), 'done')
+    for window, work, rest, points in (
+        (4, 3, 4, 1), (8, 5, 7, 2), (12, 8, 11, 3), (16, 12, 16, 4), (24, 13, 19, 5), (24, 18, 24, 5), (32, 19, 27, 6),
+        (36, 22, 30, 6), (36, 24, 32, 6),
+    ):
+        row = (work, window, 720, 0)
+        script.admit(2, row, 'done')
+        script.inquire(2, told(row, rest, points))
+        script.dismiss(2, 'done')
+        jitter = source.below(720 - window)
+        script.admit(2, (work, rest - 1 + jitter, 720, jitter), 'refused 21 newcomer overload at rank 2')
+    script.admit(2, (25, 36, 720, 0), 'refused 21 newcomer overload at rank 2')
     return script
 
 

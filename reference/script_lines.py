@@ -6,12 +6,13 @@ What is expected was taken from docs/PROGRAMS.md by hand. Each recipe takes a so
 
 from scripts import Script, Setting, put_in_or_take_out
 
-ANY_BOUND = 'exact or linear K'
+ANY_BOUND = 'exact or linear K or staircase K'
 ANY_CALL = 'frame, admit, dismiss or inquire'
 TOO_LONG = 'a line of at most 128 bytes'
 FORMS = {
     'exact': 'exact',
     'linear': 'linear K',
+    'staircase': 'staircase K',
     'frame': 'frame H',
     'admit': 'admit RANK C D T J',
     'dismiss': 'dismiss RANK',
@@ -45,7 +46,7 @@ ODD_NUMBERS = [
     (b'004294967295', 4_294_967_295), (40 * b'0', 0), (b'08', 8), (b'0012', 12),
 ]
 
-# First words that are none of the four, nor of the two.
+# First words that are none of the four, nor of the three.
 NO_WORDS = [
     b'hello', b'FRAME 12', b'Frame 12', b'fRAME 12', b'ADMIT 1 1 4 4 0', b'Admit 1 1 4 4 0', b'DISMISS 1',
     b'INQUIRE 1', b'frames 12', b'fram 12', b'f 12', b'frame12', b'frame=12', b'frame:12', b'frame,12',
@@ -59,6 +60,16 @@ NO_WORDS = [
     b'\x1bframe 12', b'\x7f', b'fr\xc3\xa4me 12', b'\xd1\x84', b'\rframe 12', b'frame\r12', b'frame\r 12',
     b'exact\r \r', b'\r \r', b'\r\r', b' \r\r', b'\r ', b'\r\t', b'\r# no comment', b'=', b' === script 1',
     b'_', b'not a call', b'done', b'refused 10 no rank', b'row 1 4 4 0',
+]
+
+# First words that nearly name a staircase.
+NO_STAIRS = [
+    b'staircase3', b'Staircase 3', b'STAIRCASE 3', b'sTAIRCASE 3', b'staircases 3', b'staircas 3', b'stair 3',
+    b'stairs 3', b'stair case 3', b'staircase=3', b'staircase:3', b'staircase,3', b'staircase-3', b'staircase(3)',
+    b'"staircase" 3', b'staircase\x00 3', b'staircase\x003', b'staircase\xa03', b'staircase\x0b3',
+    b'\xef\xbb\xbfstaircase 3', b'staircase\r3', b'\rstaircase 3', b'linear-staircase 3', b'linearstaircase 3',
+    b'exactstaircase', b's 3', b'2 3', b'--staircase 3', b'xstaircase 3', b'st\xc3\xa4ircase 3', b'=staircase 3',
+    b'tail 3',
 ]
 
 # Lines that are answered by nothing.
@@ -245,4 +256,50 @@ def before_a_bound(source, first, named=True):
         for _ in range(8):
             go_between(script)
         script.sweep()
+    return script
+
+
+def before_stairs(source, first):
+    """Lines before a staircase is named: words near its own, forms, accuracies; from one of the words on."""
+    script = Script(source)
+    for line in (NO_STAIRS[first:] + NO_STAIRS[:first])[:16]:
+        script.no_call(line, ANY_BOUND)
+        if source.below(3) == 0:
+            script.passed(source.pick(PASSED))
+    for word in (b'0', b'65', b'000', b'066', b'128', b'256', b'257', b'4294967295', b'2147483649'):
+        script.call(source.pick([b'staircase ', b' staircase\t', b'staircase  ']) + word, 'refused 3 bad accuracy')
+    script.call(b'linear 65', 'refused 3 bad accuracy')
+    for word in NO_NUMBERS[first:][:12]:
+        script.no_call(b'staircase ' + word, number_for('K'))
+    for line in (b'staircase', b'staircase 3 3', b'staircase 0 0', b'staircase x y', b' staircase \r', b'staircase 3 #'):
+        script.no_call(line, FORMS['staircase'])
+    script.no_call(b'linear staircase', number_for('K'))
+    script.no_call(b'staircase linear', number_for('K'))
+    script.no_call(b'linear staircase 3', FORMS['linear'])
+    script.no_call(b'exact staircase 3', FORMS['exact'])
+    for line in (b'staircase 3' + 118 * b' ', 118 * b' ' + b'staircase 3', b'staircase ' + 118 * b'0' + b'3'):
+        script.no_call(line, TOO_LONG)
+    script.passed(source.pick([
+        b'staircase 3', b' staircase 64', b'staircase\t1 ', b'staircase 2\r', b'\tstaircase\t\t003 ',
+        padded(b'staircase 2', 128), b'staircase ' + 116 * b'0' + b'12',
+    ]))
+    for line in (b'exact', b'linear 3', b'staircase 3', b'staircase 0', b'staircase', b'staircase x', b'staircase3'):
+        script.no_call(line, ANY_CALL)
+    script.call(b'frame 12', 'done')
+    for _ in range(8):
+        go_between(script)
+    script.sweep()
+    return script
+
+
+def stairs_too_late(source):
+    """Words near that of a staircase, and itself, when another bound is named already."""
+    script = Script(source)
+    begin(script)
+    named = [b'staircase 3', b'staircase', b'staircase 0', b'staircase 65', b'staircase x', b' staircase\t64\r']
+    for line in NO_STAIRS + named:
+        script.no_call(line, ANY_CALL)
+        if source.below(3) == 0:
+            go_between(script)
+    script.sweep()
     return script

@@ -22,12 +22,13 @@ import script_lines  # noqa: E402
 from benches import lines_of  # noqa: E402
 from chance import Source, work_out  # noqa: E402
 from refusals import BAD_FRAME, NEWCOMER_OVERLOAD, OVERLOAD  # noqa: E402
-from scripts import MOST_CALLS  # noqa: E402
+from scripts import MOST_CALLS, STAIRS  # noqa: E402
 
 SEED = 20_240_303_000  # and the number of the script
 
-# The accuracies that scripts are made with, 0 for exact steps.
+# The accuracies that scripts are made with, 0 for exact steps; and those of staircases.
 ACCURACIES = [0, 1, 2, 3, 0, 4, 5, 8, 0, 16, 63, 64, 0, 6, 2, 1, 0, 11, 3, 27]
+OF_STAIRS = [STAIRS[accuracy] for accuracy in (1, 2, 3, 1, 4, 5, 8, 2, 16, 63, 64, 1, 6, 11, 27, 3)]
 
 LEAST_CALLS = 20
 
@@ -39,14 +40,14 @@ def add(recipe, *given, weight=1):
     cases.append((len(cases) + 1, recipe, given, weight))
 
 
-def add_each(count, recipe, *givens, weight=1):
+def add_each(count, recipe, *givens, weight=1, accuracies=ACCURACIES):
     """Adds so many scripts by a recipe; of each list it is given one after the other, of accuracies first.
 
     The lists differ in length, so that what they hold is mixed.
     """
     for at in range(count):
         chosen = [given[at % len(given)] for given in givens]
-        add(recipe, ACCURACIES[at % len(ACCURACIES)], *chosen, weight=weight)
+        add(recipe, accuracies[at % len(accuracies)], *chosen, weight=weight)
 
 
 # --- All of them -------------------------------------------------------------------------------------------
@@ -105,6 +106,32 @@ def add_chance():
     add_each(10, script_chance.full_table, weight=50)
 
 
+def add_stairs():
+    """The scripts by staircases."""
+    for accuracy in (1, 2):
+        add(script_edges.worked_stairs, STAIRS[accuracy])
+    add(script_edges.stairs_one_by_one)
+    for recipe, accuracy in (
+        (script_edges.ranks_at_the_edge, 2), (script_edges.rows_at_the_edge, 64), (script_edges.pairs_of_refusals, 3),
+        (script_edges.frames_at_the_edge, 1),
+    ):
+        add(recipe, STAIRS[accuracy], weight=3)
+    add(script_edges.flawed_rows, STAIRS[1], 5)
+    for first in range(0, len(script_lines.NO_STAIRS), 8):
+        add(script_lines.before_stairs, first)
+    add(script_lines.stairs_too_late)
+    counts, wider = [4, 6, 8, 5, 10, 7, 3], [100, 200, 60, 200, 300, 150, 80, 250, 120]
+    add_each(16, script_chance.come_and_go, [2, 3, 4, 5, 3, 6, 4], [12, 30, 60], [3], accuracies=OF_STAIRS)
+    add_each(16, script_chance.come_and_go, counts, wider, [2], accuracies=OF_STAIRS)
+    add_each(2, script_chance.come_and_go, [14, 18, 24], wider[4:] + wider[:2], [1], weight=5, accuracies=OF_STAIRS)
+    add_each(8, script_chance.small_numbers, accuracies=OF_STAIRS)
+    add_each(4, script_chance.at_every_rank, [2, 3, 4, 5, 6], accuracies=OF_STAIRS)
+    add_each(4, script_chance.out_and_back, [3, 4, 5, 6, 7], accuracies=OF_STAIRS)
+    add_each(4, script_chance.narrow_windows, accuracies=OF_STAIRS)
+    add_each(2, script_chance.long_periods, weight=5, accuracies=OF_STAIRS)
+    add_each(1, script_chance.full_table, weight=50, accuracies=OF_STAIRS)
+
+
 def made(case):
     """A script with what is written for it, and what its bench noted of its refusals for a miss."""
     number, recipe, given, _ = case
@@ -149,6 +176,7 @@ def main():
     add_edges()
     add_lines()
     add_chance()
+    add_stairs()
     scripts = work_out(made, cases, lambda case: case[3])
     check_spread(scripts)
     for number, (script, written, _) in enumerate(scripts, start=1):

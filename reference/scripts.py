@@ -7,7 +7,7 @@ stand and by what the bench would answer.
 from benches import HeldBench, Player, missing_ranks, play, put_in
 from chance import ANY, LOOSE, NEARLY_LOOSE
 from counts import first_rest, window
-from leaves import HORIZON, MOST_ROWS
+from leaves import HORIZON, MOST_ACCURACY, MOST_ROWS
 
 TOP = 4_294_967_295  # the largest number of 32 bits
 HALF = 2_147_483_648  # the least that would be negative if it had a sign
@@ -16,17 +16,28 @@ HALF = 2_147_483_648  # the least that would be negative if it had a sign
 MOST_CALLS = 200
 
 
+class Stairs(int):
+    """The accuracy of a staircase, where that of a linear tail may stand too."""
+
+
+STAIRS = {accuracy: Stairs(accuracy) for accuracy in range(1, MOST_ACCURACY + 1)}
+
+
 class Script:
     """A script being made up."""
 
     def __init__(self, source, accuracy=None):
-        """A new script. With an accuracy its first line names the bound; 0 stands for exact steps."""
+        """A new script. With an accuracy its first line names the bound: that of a linear tail, 0 for exact steps, or one
+        of STAIRS.
+        """
         self.source = source
         self.lines = []
         self.answers = []
         self.player = Player(HeldBench)
         self.accuracy = accuracy
-        if accuracy is not None:
+        if isinstance(accuracy, Stairs):
+            self.passed(f'staircase {accuracy}')
+        elif accuracy is not None:
             self.passed(f'linear {accuracy}' if accuracy else 'exact')
 
     # Adding lines.

@@ -87,7 +87,11 @@ def write_sheet(frame, bound, accuracy, rows):
 
 def add_sheet(frame, accuracy, rows, findings=None):
     """Adds a sheet and answers its bytes; accuracy 0 stands for exact steps. Findings may be known beforehand."""
-    bound = 1 if accuracy else 0
+    return add_sheet_by(1 if accuracy else 0, frame, accuracy, rows, findings)
+
+
+def add_sheet_by(bound, frame, accuracy, rows, findings=None):
+    """Adds a sheet by the bound of a number."""
     data = write_sheet(frame, bound, accuracy, rows)
     assert len(data) == 7 + 17 * len(rows)
     add(data, None if findings is None else write_leaf(frame, bound, accuracy, rows, findings))
@@ -132,7 +136,7 @@ FLAWED_ROWS = {
 }
 FLAWED_HEADINGS = {
     1: write_heading(0, 1, 3),
-    20: write_heading(12, 2, 3),
+    20: write_heading(12, 3, 3),
     3: write_heading(12, 1, 0),
 }
 
@@ -347,10 +351,10 @@ def refusals_of_the_heading():
     for frame in (0, HORIZON + 1, HALF, HALF + 12, TOP, 12 * 256 * 256 * 256):
         refuse(write_heading(frame, 0, 0), 1, 0)
         refuse(write_heading(frame, 1, 3) + GOOD_ROW, 1, 0)
-        refuse(write_heading(frame, 2, 0), 1, 0)  # 1 and 20
+        refuse(write_heading(frame, 3, 0), 1, 0)  # 1 and 20
         refuse(write_heading(frame, 0, 1), 1, 0)  # 1 and 3
         refuse(write_heading(frame, 255, 255), 1, 0)
-    for bound in (2, 3, 65, 128, 254, 255):
+    for bound in (3, 65, 128, 254, 255):
         for accuracy in (0, 1, 64, 65, 255):  # no accuracy is looked at
             refuse(write_heading(12, bound, accuracy), 20, 0)
     for accuracy in (1, 2, 64, 65, 128, 255):
@@ -584,6 +588,110 @@ def sheets_damaged():
         add(b'F' + bytes(source.below(256) for _ in range(source.below(30))))
 
 
+# --- By the staircase --------------------------------------------------------------------------------------
+
+STAIRCASE = 2
+
+
+def add_by_staircase(frame, accuracy, rows, findings=None):
+    """Adds a sheet by the staircase of an accuracy."""
+    return add_sheet_by(STAIRCASE, frame, accuracy, rows, findings)
+
+
+def worked_staircases():
+    """The worked table by every staircase. Its rows have at most 3 jobs, so all but the first count as exact steps do."""
+    exact = [(1, 1), (3, 1), (10, 4)]
+    add_by_staircase(12, 1, WORKED_ROWS, [(1, 1), (3, 1), (11, 4)])
+    for accuracy in range(2, 65):
+        add_by_staircase(12, accuracy, WORKED_ROWS, exact)
+    for accuracy in (1, 2, 64):
+        add_by_staircase([1, 12, HORIZON][accuracy % 3], accuracy, [], [])
+
+
+def stairs_of_one():
+    """A row below one of period 4 that asks for 1 by each job: by accuracy 2 that is 1, 2, 3, 4, 6, 6, 8, 8, 12."""
+    for window_told, work, rest, points in (
+        (4, 3, 4, 1), (8, 5, 7, 2), (12, 8, 11, 3), (16, 12, 16, 4), (24, 13, 19, 5), (24, 18, 24, 5), (32, 19, 27, 6),
+        (36, 22, 30, 6), (36, 24, 32, 6), (36, 25, None, 7),
+    ):
+        rows = [(1, 4, 4, 0), (work, window_told, 720, 0)]
+        add_by_staircase(720, 2, rows, [(1, 1), (rest or 0, points)])
+
+
+def random_staircase(count, accuracy, most):
+    """A sheet by chance of so many rows with windows up to `most`."""
+    frame, periods = source.frame_and_periods(count, most)
+    add_by_staircase(frame, accuracy, source.table(count, periods, source.utilisation(accuracy)))
+
+
+def every_staircase():
+    """Tables by the staircase of each accuracy, short windows and long ones; and of each number of rows."""
+    for accuracy in range(1, 65):
+        for most in (60, 500):
+            random_staircase(source.between(2, 9), accuracy, most)
+    for count in range(33):
+        random_staircase(count, random_accuracy(), 200)
+    for accuracy in (1, 2, 64):
+        add_by_staircase(FULL_FRAME, accuracy, FULL_ROWS)
+
+
+def stairs_far_up():
+    """Tables in which rows of short periods ask so often that their jobs are counted in large grains."""
+    for turn in range(40):
+        accuracy = source.pick([1, 1, 2, 3, source.between(1, 8), source.between(1, 64)])
+        share = source.between(40, 96) * accuracy // (accuracy + 1)
+        rows = source.table(source.between(1, 3), divisors(720_720, 2, 12), share, source.pick([LOOSE, NEARLY_LOOSE]))
+        bound = bound_of(STAIRCASE, accuracy)
+        period = source.pick(divisors(720_720, 400, 8000))
+        used = sum(period * work // other for work, _, other, _ in rows)
+        work = min(max(1, (period - used) * source.between(5, 60) // 100), period)
+        row = (work, period, period, source.below(min(period - work, 9) + 1))
+        if turn % 4:
+            row = at_the_edge(source, 720_720, bound, row, tuple(rows))
+        add_by_staircase(720_720, accuracy, rows + [row])
+
+
+def stairs_at_the_edge():
+    """Tables in which most windows end where the row first rests by the staircase, or an instant before or after."""
+    for _ in range(60):
+        count, accuracy = source.between(2, 7), random_accuracy()
+        frame, periods = source.frame_and_periods(count, source.pick([30, 100, 300]))
+        rows = source.table(count, periods, source.utilisation(accuracy), source.pick([LOOSE, NEARLY_LOOSE]))
+        for at, row in enumerate(rows):
+            if source.below(4):
+                rows[at] = at_the_edge(source, frame, bound_of(STAIRCASE, accuracy), row, tuple(rows[:at]))
+        add_by_staircase(frame, accuracy, rows)
+
+
+def refusals_of_staircases():
+    """The accuracies of a staircase past their ends, and what else may be wrong with its sheet."""
+    for accuracy in (0, 65, 66, 128, 255):
+        refuse(write_heading(12, STAIRCASE, accuracy), 3, 0)
+        refuse(write_heading(HORIZON, STAIRCASE, accuracy) + GOOD_ROW, 3, 0)
+        for frame in (0, HORIZON + 1, TOP):
+            refuse(write_heading(frame, STAIRCASE, accuracy), 1, 0)
+    for accuracy in (1, 64):
+        head = write_heading(12, STAIRCASE, accuracy)
+        for number, flaw in FLAWED_ROWS.items():
+            refuse(head + flaw, number, 7)
+            refuse(head + GOOD_ROW + flaw, number, 24)
+        refuse(head + 33 * GOOD_ROW, 9, 551)
+        refuse(head + GOOD_ROW[:-1], 13, 23)
+        refuse(head + write_end(1), 15, 7)
+        refuse(head + head, 15, 7)
+
+
+def staircases():
+    """The sheets by staircases, by chance of their own."""
+    source.turn_to(20_261_127)
+    worked_staircases()
+    stairs_of_one()
+    every_staircase()
+    stairs_far_up()
+    stairs_at_the_edge()
+    refusals_of_staircases()
+
+
 # --- All of them -------------------------------------------------------------------------------------------
 
 
@@ -609,6 +717,7 @@ def make_vectors():
     long_inputs()
     leaves_given()
     sheets_damaged()
+    staircases()
 
 
 def longest_window(data):
@@ -641,7 +750,7 @@ def worked_out(data):
     _, frame, bound, accuracy, rows = read
     if longest_window(data) <= WIDEST:
         for at, row in enumerate(rows):
-            # Beside a row in exact steps, some linear tail.
+            # Beside a row in exact steps, some linear tail and staircase.
             check_case(frame, row, tuple(rows[:at]), accuracy or 1 + (7 * at + row[1]) % 64, in_full=False)
     answer = answer_sheet(data)
     findings = read_leaf(answer)[5]
@@ -654,14 +763,14 @@ def kind_of(data):
     read = read_sheet(data)
     if read[0] == 'refused':
         return read[1]
-    return 'exact steps' if read[2] == 0 else 'linear tail'
+    return ['exact steps', 'linear tail', 'staircase'][read[2]]
 
 
 def check_spread():
     """Every answer that a sheet can have is there."""
     kinds = [kind_of(data) for data in vectors]
     counts = {kind: kinds.count(kind) for kind in set(kinds)}
-    assert set(counts) == {'exact steps', 'linear tail', *REFUSALS} and min(counts.values()) >= 20
+    assert set(counts) == {'exact steps', 'linear tail', 'staircase', *REFUSALS} and min(counts.values()) >= 20
     assert sum(longest_window(data) > WIDEST for data in vectors) == 10
 
 

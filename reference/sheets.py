@@ -12,7 +12,7 @@ import sys
 
 sys.dont_write_bytecode = True  # leave no cache beside the sources
 
-from counts import EXACT_STEPS, LINEAR_TAILS, survey  # noqa: E402
+from counts import EXACT_STEPS, LINEAR_TAILS, STAIRCASES, survey  # noqa: E402
 from leaves import (  # noqa: E402
     BEFORE_HEADING,
     HEADING,
@@ -101,7 +101,7 @@ def read_sheet(data):
 
 def bound_of(bound, accuracy):
     """The bound that a heading names."""
-    return EXACT_STEPS if bound == 0 else LINEAR_TAILS[accuracy]
+    return EXACT_STEPS if bound == 0 else {1: LINEAR_TAILS, 2: STAIRCASES}[bound][accuracy]
 
 
 def write_refusal(number, place):

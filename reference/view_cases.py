@@ -7,15 +7,16 @@ line, and `stdout` with the answers, each behind a line `=== ` and the command l
 
 | command line | answer |
 |---|---|
-| `file TABLE --linear K [--frame H]` | the table up to the line of rows that meet, and both leaves in hexadecimal |
+| `file TABLE [--linear K] [--staircase K] [--frame H]` | the table up to the line of rows that meet, and all leaves in hexadecimal |
 | `show [--csv \\| --json] LEAF ..` | what is printed, and `status 1` where a leaf was damaged |
 | `compare A B` | what is printed |
-| `plot TABLE --rank R --linear K [--frame H]` | the picture's description |
-| `sheet TABLE [--linear K] [--frame H]` | the sheet in hexadecimal |
+| `plot TABLE --rank R [--linear K] [--staircase K] [--frame H]` | the picture's description |
+| `sheet TABLE [--linear K \\| --staircase K] [--frame H]` | the sheet in hexadecimal |
 | `respond TABLE` | what is printed |
 | `bench SCRIPT` | what is printed |
 
-What is refused is answered by one line, `trouble: ` and what is told. The same files come each time.
+Of `file` and `plot` at least one bound is named, and options stand in any order. What is refused is answered by one line,
+`trouble: ` and what is told. The same files come each time.
 
 Where this file names the answer to a command line, it was taken from docs/PROGRAMS.md by hand, and the answers are
 held to it. The counts of each table are held to what docs/RULES.md says of them.
@@ -27,10 +28,21 @@ from pathlib import Path
 sys.dont_write_bytecode = True  # leave no cache beside the sources
 
 from chance import Source  # noqa: E402
-from counts import EXACT_STEPS, LINEAR_TAILS, check_case, exact_demand, survey, window  # noqa: E402
+from counts import EXACT_STEPS, check_case, exact_demand, survey, window  # noqa: E402
 from leaves import HORIZON, read_leaf, write_end, write_finding, write_heading, write_leaf, write_row  # noqa: E402
 from refusals import SHORT_BUFFER, SHORT_LIST, WORDS, refused  # noqa: E402
-from views import MOST_NUMBER, Judged, Trouble, answer, leaf_of, responses_of  # noqa: E402
+from views import (  # noqa: E402
+    KINDS,
+    MOST_NUMBER,
+    Judged,
+    Named,
+    Trouble,
+    answer,
+    leaf_of,
+    named_by,
+    options_of,
+    responses_of,
+)
 
 MARK = '\ufeff'  # the byte order mark
 
@@ -61,13 +73,13 @@ def ask(line, told=None):
     expected[line] = told
     words = line.split(' ')
     if words[0] == 'file':
-        options = dict(zip(words[2::2], words[3::2]))
-        frame = int(options['--frame']) if '--frame' in options else None
+        options = options_of(words[2:])
+        named = named_by(options)
         try:
-            judged = Judged(files[words[1]], int(options['--linear']), frame)
+            judged = Judged(files[words[1]], named, options.get('--frame'))
         except Trouble:
             return
-        judged_tables.append((judged.frame, tuple(judged.rows), int(options['--linear'])))
+        judged_tables.extend((judged.frame, tuple(judged.rows), accuracy) for _, accuracy in named)
 
 
 def trouble(text):
@@ -608,15 +620,19 @@ rank  name  C   D     T  J  response  slack
 # --- Leaves ------------------------------------------------------------------------------------------------
 
 
-def leaf(name, rows, accuracy, frame):
-    """Adds the leaf of a survey, in exact steps where the accuracy is 0."""
-    bound = LINEAR_TAILS[accuracy] if accuracy else EXACT_STEPS
-    return put(name, leaf_of(frame, accuracy, rows, survey(frame, bound, rows)))
+LINEAR, STAIRCASE = KINDS
 
 
-def by_hand(name, rows, findings, accuracy=0, frame=12):
+def leaf(name, rows, accuracy, frame, kind=LINEAR):
+    """Adds the leaf of a survey, in exact steps where the accuracy is 0, else by the linear tail or another kind."""
+    named = Named(kind, accuracy) if accuracy else None
+    bound = named.bound if named else EXACT_STEPS
+    return put(name, leaf_of(frame, named, rows, survey(frame, bound, rows)))
+
+
+def by_hand(name, rows, findings, accuracy=0, frame=12, kind=LINEAR):
     """Adds a leaf with findings told by hand, which need not be those of its rows."""
-    return put(name, write_leaf(frame, 1 if accuracy else 0, accuracy, rows, findings))
+    return put(name, write_leaf(frame, kind.number if accuracy else 0, accuracy, rows, findings))
 
 
 def rows_of(name):
@@ -768,7 +784,7 @@ def damaged_leaves():
         '17-rest': changed(67 + 1, 1, 0, 0, 1),
         '18': whole + b'\x00',
         '18-leaf': whole + whole,
-        '20': changed(5, 2),
+        '20': changed(5, 3),
     }
     for name, data in damaged.items():
         put(f'd{name}.leaf', data)
@@ -877,6 +893,233 @@ def scripts():
     ask('bench lines.script')
 
 
+# --- Staircases, and several bounds ------------------------------------------------------------------------
+
+BAD_STAIRS = trouble('refused 3 bad accuracy: expected --staircase from 1 to 64')
+
+# Only the third row has jobs above it that are counted in grains: at 9 and later A has 3, counted as 4 by accuracy 1.
+STAIRCASE_TOLD = """\
+frame 12, staircase of accuracy 1
+rank  name  C   D   T  J  exact rest  response  slack  staircase rest  gap  exact points  staircase points
+   1  A     1   4   4  0           1         1      3               1    0             1                 1
+   2  B     2   6   6  1           3         4      2               3    0             1                 1
+   3  E     3  12  12  0          10        10      2              11    1             4                 4
+utilisation 10/12, 83.33 %
+3 of 3 rows meet in exact steps, 3 of 3 by the staircase
+exact leaf: 460000000C0000\
+5200000001000000040000000400000000520000000200000006000000060000000152000000030000000C0000000C00000000\
+410000000100000001410000000300000001410000000A000000045A00000007
+staircase leaf: 460000000C0201\
+5200000001000000040000000400000000520000000200000006000000060000000152000000030000000C0000000C00000000\
+410000000100000001410000000300000001410000000B000000045A00000007
+"""
+
+BOTH_TOLD = """\
+frame 12, linear tail of accuracy 3, staircase of accuracy 2
+rank  name  C   D   T  J  exact rest  response  slack  linear rest  gap  staircase rest  gap  exact points  linear points  \
+staircase points
+   1  A     1   4   4  0           1         1      3            1    0               1    0             1              1  \
+               1
+   2  B     2   6   6  1           3         4      2            3    0               3    0             1              1  \
+               1
+   3  E     3  12  12  0          10        10      2           11    1              10    0             4              4  \
+               4
+utilisation 10/12, 83.33 %
+3 of 3 rows meet in exact steps, 3 of 3 by the linear tail, 3 of 3 by the staircase
+exact leaf: 460000000C0000\
+5200000001000000040000000400000000520000000200000006000000060000000152000000030000000C0000000C00000000\
+410000000100000001410000000300000001410000000A000000045A00000007
+linear leaf: 460000000C0103\
+5200000001000000040000000400000000520000000200000006000000060000000152000000030000000C0000000C00000000\
+410000000100000001410000000300000001410000000B000000045A00000007
+staircase leaf: 460000000C0202\
+5200000001000000040000000400000000520000000200000006000000060000000152000000030000000C0000000C00000000\
+410000000100000001410000000300000001410000000A000000045A00000007
+"""
+
+
+def several_files():
+    """Tables counted by a staircase, and by both bounds, whose options stand in any order."""
+    ask('file worked.csv --staircase 1', STAIRCASE_TOLD)
+    for line in ['--linear 3 --staircase 2', '--staircase 2 --linear 3', '--staircase 2 --frame 12 --linear 3']:
+        ask(f'file worked.csv {line}', BOTH_TOLD)
+    for line in [
+        'worked.csv --staircase 64', 'worked.txt --staircase 1 --linear 1', 'no-names.tsv --linear 1 --staircase 64', 'heading.csv --staircase 1',
+        'heading.csv --staircase 64 --linear 1 --frame 12', 'one.csv --staircase 2', 'full.csv --staircase 1', 'full.csv --linear 2 --staircase 3',
+        'both-miss.csv --linear 4 --staircase 4', 'tail-misses.csv --staircase 1 --linear 1', 'jitters.csv --staircase 2',
+        'long-windows.csv --linear 7 --staircase 2', 'horizon.csv --staircase 4 --linear 4', 'common.csv --staircase 1', 'whole.csv --linear 64 --staircase 64',
+        'hundredths.csv --frame 60000 --staircase 1', 'long-names.csv --linear 2 --staircase 1', 'chance-12.csv --staircase 1 --linear 3',
+    ]:
+        ask(f'file {line}')
+
+
+def parting_rows():
+    """Rows that meet by some bounds and miss by others, of which windows end about where they rest by one."""
+    # At 24 the first row has had 6 jobs, which accuracy 2 counts as they are; at 36 it has had 9, of which that makes 12: with
+    # 17 and 8 that is 37.
+    rows = [(1, 4, 4, 0), (17, 24, 720, 0), (8, 36, 720, 0)]
+    put('parting.csv', rows_text(rows, names=['A', 'at 24', 'at 36']))
+    for line in ['--staircase 2', '--linear 2 --staircase 2', '--staircase 1 --linear 64', '--linear 9 --staircase 9']:
+        ask(f'file parting.csv {line}')
+    # Of the tail of accuracy 6 and the staircase of accuracy 2, the second row meets by one and misses by the other, and the
+    # third misses by both; in exact steps all meet. So pictures show a row with one rest by a bound, and one with none.
+    for name, rows in {
+        'tail-meets.csv': [(1, 4, 4, 0), (26, 36, 720, 0), (1, 37, 720, 0), (1, 720, 720, 0)],
+        'stairs-meet.csv': [(1, 4, 4, 0), (18, 24, 720, 0), (1, 26, 720, 0), (1, 720, 720, 0)],
+    }.items():
+        put(name, rows_text(rows))
+        ask(f'file {name} --linear 6 --staircase 2')
+        ask(f'file {name} --staircase 6 --linear 2')
+        for rank in (2, 3):
+            ask(f'plot {name} --rank {rank} --linear 6 --staircase 2')
+        ask(f'plot {name} --rank 2 --linear 2 --staircase 6')
+
+
+def stairs_by_chance():
+    """Tables made by chance by a staircase or by both bounds, in all forms; of chance of their own."""
+    source.turn_to(20_261_130)
+    for number in range(1, 13):
+        count, accuracy = source.between(2, 9), source.between(1, 4)
+        _, periods = source.frame_and_periods(count, 2000)
+        rows = source.table(count, periods, source.utilisation(accuracy))
+        name = f'stairs-{number:02}.' + ['csv', 'tsv', 'txt'][number % 3]
+        options = f'--staircase {accuracy}' + ('' if number % 4 == 0 else f' --linear {source.between(1, 9)}')
+        table(name, rows_text(rows, [',', '\t', '  '][number % 3]), options)
+        ask(f'plot {name} --rank {count} {options}')
+
+
+def refused_stairs():
+    """Accuracies of staircases that are refused, and the order of what is refused."""
+    for accuracy in (0, 65, MOST_NUMBER):
+        ask(f'file worked.csv --staircase {accuracy}', BAD_STAIRS)
+        ask(f'plot worked.csv --rank 9 --staircase {accuracy}', BAD_STAIRS)
+        ask(f'sheet worked.csv --staircase {accuracy}', BAD_STAIRS)
+        ask(f'file worked.csv --linear 3 --staircase {accuracy}', BAD_STAIRS)
+        ask(f'file worked.csv --staircase {accuracy} --linear 65', BAD_ACCURACY)
+        ask(f'file worked.csv --staircase 2 --linear {accuracy}', BAD_ACCURACY)
+        ask(f'plot worked.csv --rank 0 --staircase {accuracy} --linear 0', BAD_ACCURACY)
+        ask(f'plot worked.csv --rank 0 --staircase {accuracy} --linear 1', BAD_STAIRS)
+        ask(f'file worked.csv --staircase {accuracy} --linear 0 --frame 0', BAD_FRAME)
+        ask(f'file r-idle-3.csv --linear 1 --staircase {accuracy}', BAD_STAIRS)
+    ask('file r-idle-3.csv --staircase 1', expected['file r-idle-3.csv --linear 3'])
+    ask('file r-idle-3.csv --staircase 1 --linear 3', expected['file r-idle-3.csv --linear 3'])
+    ask('file r-off-4.csv --staircase 1 --linear 3 --frame 12', expected['file r-off-4.csv --linear 3 --frame 12'])
+    ask('file r-multiple.csv --staircase 65 --linear 3', BAD_STAIRS)
+    ask('file r-multiple.csv --staircase 64 --linear 64', NO_MULTIPLE)
+    ask('file f-few.csv --staircase 0 --linear 0', expected['file f-few.csv --linear 3'])
+    ask('file empty.csv --staircase 1', trouble(nothing(1)))
+    ask('plot worked.csv --rank 4 --linear 3 --staircase 3', NO_RANK)
+    ask('plot heading.csv --rank 1 --staircase 3', NO_ROW)
+    ask('plot r-multiple.csv --rank 3 --staircase 3 --linear 1', NO_MULTIPLE)
+    ask('sheet worked.csv --staircase 65 --frame 0', BAD_FRAME)
+    ask('sheet r-multiple.csv --staircase 3', NO_MULTIPLE)
+
+
+def several_plots():
+    """The descriptions of pictures by a staircase, and by both bounds, also of windows that are thinned."""
+    one = 'rank 3; window 12; exact rest 10 points 4'
+    tail = 'linear-3 rest 11 points 4; drawn 5 of 5 test points by the tail'
+    first = 'staircase-1 rest 11 points 4; drawn 5 of 5 test points by the staircase'
+    second = 'staircase-2 rest 10 points 4; drawn 5 of 5 test points by the staircase'
+    ask('plot worked.csv --rank 3 --staircase 1', f'{one}; {first}\n')
+    ask('plot worked.csv --rank 3 --linear 3 --staircase 2', f'{one}; {tail}; {second}\n')
+    ask('plot worked.csv --staircase 1 --rank 3 --linear 3', f'{one}; {tail}; {first}\n')
+    ask('plot worked.csv --rank 1 --staircase 2 --frame 24', 'rank 1; window 4; exact rest 1 points 1; staircase-2 rest 1 points 1; '
+        'drawn 1 of 1 test points by the staircase\n')
+    # Below a row of period 1 the test points are the numbers that are counted as themselves: by accuracy 1 the powers of two,
+    # of which 1, 2, 4 and on up to 512 are smaller than the window, and the window itself; by accuracy 2 these and 3, 6, 12
+    # and on up to 384. In a window of 721 each column has 2 instants: 1 and 2 share one, 3 and 4 another.
+    put('stairs-720.csv', lines('C,D,T', '1,1,1', '1,720,720'))
+    put('stairs-721.csv', lines('C,D,T', '1,1,1', '1,721,721'))
+    ask('plot stairs-720.csv --rank 2 --staircase 1', 'rank 2; window 720; exact misses points 720; staircase-1 misses points 11; '
+        'drawn 11 of 11 test points by the staircase\n')
+    ask('plot stairs-720.csv --rank 2 --staircase 2', 'rank 2; window 720; exact misses points 720; staircase-2 misses points 19; '
+        'drawn 19 of 19 test points by the staircase\n')
+    ask('plot stairs-721.csv --rank 2 --staircase 2', 'rank 2; window 721; exact misses points 721; staircase-2 misses points 19; '
+        'drawn 17 of 19 test points by the staircase\n')
+    ask('plot stairs-721.csv --rank 2 --staircase 2 --linear 64', 'rank 2; window 721; exact misses points 721; '
+        'linear-64 misses points 64; drawn 33 of 64 test points by the tail; '
+        'staircase-2 misses points 19; drawn 17 of 19 test points by the staircase\n')
+    for line in [
+        'both-miss.csv --rank 3 --staircase 4', 'tail-misses.csv --rank 3 --linear 2 --staircase 2', 'full.csv --rank 32 --staircase 5 --linear 5',
+        'long-windows.csv --rank 4 --linear 9 --staircase 1', 'long-windows.csv --rank 4 --staircase 64', 'horizon.csv --rank 4 --linear 2 --staircase 2',
+        'chance-12.csv --rank 12 --staircase 1', 'parting.csv --rank 3 --linear 1 --staircase 1',
+    ]:
+        ask(f'plot {line}')
+
+
+def staircase_sheets():
+    """Sheets by the staircase."""
+    rows = ''.join(write_row(*row).hex().upper() for row in WORKED_ROWS)
+    ask('sheet worked.csv --staircase 3', f'sheet: 460000000C0203{rows}\n')
+    ask('sheet worked.csv --frame 24 --staircase 64', f'sheet: 46000000180240{rows}\n')
+    ask('sheet heading.csv --staircase 1', 'sheet: 46000000010201\n')
+    ask('sheet full.csv --staircase 2')
+    ask('sheet r-idle-3.csv --staircase 1', trouble('line 5, field 2 (work): 0 stands there, expected at least 1: refused 4 idle row at rank 3'))
+
+
+def staircase_leaves():
+    """What leaves by the staircase hold, damaged ones, and such leaves beside others."""
+    for accuracy in (1, 2, 64):
+        leaf(f'worked.staircase-{accuracy}.leaf', WORKED_ROWS, accuracy, 12, STAIRCASE)
+    leaf('none.staircase-7.leaf', [], 7, HORIZON, STAIRCASE)
+    leaf('full.staircase-1.leaf', FULL_ROWS, 1, 720, STAIRCASE)
+    for name, accuracy in [('tail-meets', 2), ('stairs-meet', 2), ('parting', 1)]:
+        rows, frame = rows_of(f'{name}.csv')
+        leaf(f'{name}.staircase-{accuracy}.leaf', rows, accuracy, frame, STAIRCASE)
+        leaf(f'{name}.linear-6.leaf', rows, 6, frame)
+    by_hand('later.staircase.leaf', WORKED_ROWS, [(5, 2), (0, 3), (12, MOST_NUMBER)], 64, kind=STAIRCASE)
+    whole = files['worked.staircase-1.leaf']
+    for name, data in {
+        '03-stairs-zero': whole[:6] + b'\x00' + whole[7:], '03-stairs-large': whole[:6] + b'\x41' + whole[7:],
+        '13-stairs': whole[:-1], '20-stairs': whole[:5] + b'\x03' + whole[6:],
+    }.items():
+        put(f'd{name}.leaf', data)
+        assert read_leaf(data)[:2] == ('refused', int(name[:2]))
+    told = EXACT_TOLD.replace('worked.exact.leaf: exact steps', 'worked.staircase-1.leaf: staircase of accuracy 1')
+    told = told.replace('          10        10       4', '          11        11       4')
+    ask('show worked.staircase-1.leaf', told)
+    ask('show d03-stairs-zero.leaf', 'd03-stairs-zero.leaf: refused 3 bad accuracy at byte 0, around it [46] 00 00 00 0c 02 00 52\nstatus 1\n')
+    ask('show worked.staircase-2.leaf worked.linear-3.leaf worked.staircase-64.leaf later.staircase.leaf full.staircase-1.leaf')
+    damaged = 'd03-stairs-zero.leaf d03-stairs-large.leaf d13-stairs.leaf d20-stairs.leaf'
+    for form in ('', '--csv ', '--json '):
+        ask(f'show {form}{damaged}')
+        ask(f'show {form}worked.staircase-1.leaf none.staircase-7.leaf worked.exact.leaf later.staircase.leaf')
+    ask('compare worked.exact.leaf worked.staircase-1.leaf', """\
+A: worked.exact.leaf, exact steps
+B: worked.staircase-1.leaf, staircase of accuracy 1
+frame 12, 3 rows
+rank  work  deadline  period  jitter  A rest  B rest  B later by  A points  B points  verdicts
+   1     1         4       4       0       1       1           0         1         1  same
+   2     2         6       6       1       3       3           0         1         1  same
+   3     3        12      12       0      10      11           1         4         4  same
+the verdicts part nowhere
+""")
+    for line in [
+        'worked.staircase-2.leaf worked.linear-3.leaf', 'worked.linear-1.leaf worked.staircase-1.leaf', 'worked.staircase-1.leaf worked.staircase-2.leaf',
+        'tail-meets.linear-6.leaf tail-meets.staircase-2.leaf', 'stairs-meet.staircase-2.leaf stairs-meet.linear-6.leaf',
+        'parting.linear-6.leaf parting.staircase-1.leaf', 'later.staircase.leaf later.leaf', 'full.exact.leaf full.staircase-1.leaf',
+        'none.linear-7.leaf none.staircase-7.leaf', 'worked.exact.leaf d13-stairs.leaf',
+    ]:
+        ask(f'compare {line}')
+
+
+def staircase_scripts():
+    """Scripts of benches by the staircase."""
+    put('stairs.script', lines(
+        'frame 12', 'staircase', 'staircase3', 'staircase 0', 'staircase 65', 'staircase x', '\t staircase  001 \r', 'staircase 2', 'frame 12',
+        'admit 1 1 4 4 0', 'admit 2 2 6 6 1', 'admit 3 3 10 12 0', 'admit 3 3 12 12 0', 'inquire 3', 'dismiss 1', 'inquire 2', 'linear 3',
+    ))
+    any_call = 'expected frame, admit, dismiss or inquire'
+    ask('bench stairs.script', lines(
+        'not a call at line 1: expected exact or linear K or staircase K', 'not a call at line 2: expected staircase K',
+        'not a call at line 3: expected exact or linear K or staircase K', 'refused 3 bad accuracy', 'refused 3 bad accuracy',
+        'not a call at line 6: expected a number from 0 to 4294967295 for K', f'not a call at line 8: {any_call}', 'done', 'done', 'done',
+        'refused 21 newcomer overload at rank 3', 'done', 'row 3 12 12 0 meets 11 points 4', 'done', 'row 3 12 12 0 meets 5 points 1',
+        f'not a call at line 17: {any_call}',
+    ))
+
+
 # --- Writing -----------------------------------------------------------------------------------------------
 
 
@@ -885,6 +1128,7 @@ def make_cases():
     for make in [
         forms, names, counted, random_tables, bad_headings, bad_fields, bad_numbers, large_numbers, bad_bytes, refused_tables,
         refused_options, plots, sheets, responds, shows, compares, scripts,
+        several_files, parting_rows, stairs_by_chance, refused_stairs, several_plots, staircase_sheets, staircase_leaves, staircase_scripts,
     ]:
         make()
 
@@ -903,7 +1147,7 @@ FORMS = [refused(number) for number in WORDS if number not in (SHORT_LIST, SHORT
     'fields stand there, expected', 'stands there again', 'no heading', 'a task more', 'nothing stands there', 'no text',
     'expected at least 1', 'less the jitter', 'is below the jitter', 'leaves none of the deadline',
     'at most the period', 'at most 16777216', 'a divisor of the frame',
-    'expected --frame', 'no common multiple', 'expected --linear', 'expected --rank', 'the table has no row', 'at ranks 1, 3\n',
+    'expected --frame', 'no common multiple', 'expected --linear', 'expected --staircase', 'expected --rank', 'the table has no row', 'at ranks 1, 3\n',
     'part nowhere', 'the frames differ', ' rows and ', 'misses points', 'status 1',
 ]
 
@@ -925,6 +1169,9 @@ def main():
         assert form in stdout, form
     used = {word for line in expected for word in line.split(' ')}
     assert set(files) <= used, set(files) - used
+    # Where both bounds are named, rows meet by both, by one of them alone, and by none.
+    for told_apart in ('3 of 4 by the linear tail, 2 of 4 by the staircase\n', '2 of 4 by the linear tail, 3 of 4 by the staircase\n'):
+        assert told_apart in stdout, told_apart
     assert sum(map(len, files.values())) < 300_000
 
     data = folder / 'data'

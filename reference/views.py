@@ -4,27 +4,29 @@ A task table is read from its bytes, judged and given a frame, and its rows are 
 leaves are read by leaves.py, and scripts are played by benches.py. Texts are strings that end with a line feed. What is
 refused or cannot be taken is a Trouble, whose text is what is told behind the file's name.
 
-    python3 reference/views.py file TABLE --linear K [--frame H] [--out NAME]
+    python3 reference/views.py file TABLE [--linear K] [--staircase K] [--frame H] [--out NAME]
     python3 reference/views.py show [--csv | --json] LEAF ..
     python3 reference/views.py compare A B
-    python3 reference/views.py plot TABLE --rank R --linear K [--frame H]
-    python3 reference/views.py sheet TABLE [--linear K] [--frame H]
+    python3 reference/views.py plot TABLE --rank R [--linear K] [--staircase K] [--frame H]
+    python3 reference/views.py sheet TABLE [--linear K | --staircase K] [--frame H]
     python3 reference/views.py respond TABLE
     python3 reference/views.py bench SCRIPT
 
-prints what is told of the files named: of `file` the table, and the bytes of both leaves or, with a name, the lines that
-tell where they are filed; of `plot` the numbers of the picture; of `sheet` its bytes in hexadecimal.
+prints what is told of the files named: of `file` the table, and the bytes of all leaves or, with a name, the lines that
+tell where they are filed; of `plot` the numbers of the picture; of `sheet` its bytes in hexadecimal. Of `file` and `plot`
+at least one bound is named.
 """
 
 import json
 import math
 import sys
 from pathlib import Path
+from typing import NamedTuple
 
 sys.dont_write_bytecode = True  # leave no cache beside the sources
 
 from benches import play  # noqa: E402
-from counts import EXACT_STEPS, LINEAR_TAILS, response_time, survey, window  # noqa: E402
+from counts import EXACT_STEPS, LINEAR_TAILS, STAIRCASES, response_time, survey, window  # noqa: E402
 from leaves import HORIZON, MOST_ACCURACY, MOST_ROWS, read_leaf, write_heading, write_leaf, write_row  # noqa: E402
 from refusals import (  # noqa: E402
     BAD_ACCURACY,
@@ -41,6 +43,46 @@ from refusals import (  # noqa: E402
 )
 
 MOST_NUMBER = 4_294_967_295
+
+
+class Kind(NamedTuple):
+    """A kind of bound that is named with an accuracy."""
+
+    number: int  # in a heading
+    word: str  # in options, in columns and in the names of leaves
+    name: str  # as people read it
+    short: str  # in the description of a picture
+    bounds: dict  # by accuracy
+
+
+# The kinds in the order of their numbers, in which they always come.
+KINDS = [
+    Kind(1, 'linear', 'linear tail', 'tail', LINEAR_TAILS),
+    Kind(2, 'staircase', 'staircase', 'staircase', STAIRCASES),
+]
+
+
+class Named(NamedTuple):
+    """A bound that is named: its kind and an accuracy that nobody has judged."""
+
+    kind: Kind
+    accuracy: int
+
+    @property
+    def bound(self):
+        """The bound itself."""
+        return self.kind.bounds[self.accuracy]
+
+    @property
+    def told(self):
+        """The bound as people read it."""
+        return f'{self.kind.name} of accuracy {self.accuracy}'
+
+    @property
+    def short(self):
+        """The bound in names of files and in descriptions."""
+        return f'{self.kind.word}-{self.accuracy}'
+
 
 # The headings of a task table: those that must be there, all, and other words for them.
 NEEDED = ['work', 'deadline', 'period']
@@ -344,13 +386,14 @@ def check_tasks(tasks, frame=None):
 class Judged:
     """A table that was read and judged: its tasks, its rows and its frame."""
 
-    def __init__(self, data, accuracy=None, frame=None):
-        """Judges the bytes of a table by the accuracy and the frame that are named."""
+    def __init__(self, data, named=(), frame=None):
+        """Judges the bytes of a table by the bounds, in the order of their kinds, and the frame that are named."""
         self.tasks = read_table(data)
         if frame is not None and not 1 <= frame <= HORIZON:
             raise Trouble(f'{refused(BAD_FRAME)}: expected --frame from 1 to {HORIZON}')
-        if accuracy is not None and not 1 <= accuracy <= MOST_ACCURACY:
-            raise Trouble(f'{refused(BAD_ACCURACY)}: expected --linear from 1 to {MOST_ACCURACY}')
+        for kind, accuracy in named:
+            if not 1 <= accuracy <= MOST_ACCURACY:
+                raise Trouble(f'{refused(BAD_ACCURACY)}: expected --{kind.word} from 1 to {MOST_ACCURACY}')
         check_tasks(self.tasks, frame)
         self.rows = [task.numbers for task in self.tasks]
         self.frame = frame if frame is not None else math.lcm(*(period for _, _, period, _ in self.rows))
@@ -384,10 +427,12 @@ def rest_told(rest):
 
 # --- file --------------------------------------------------------------------------------------------------
 
-FILE_COLUMNS = [
-    'rank', 'name', 'C', 'D', 'T', 'J', 'exact rest', 'response', 'slack', 'linear rest', 'gap', 'exact points',
-    'linear points',
-]
+def file_columns(named):
+    """The headings of the table that `file` prints."""
+    headings = ['rank', 'name', 'C', 'D', 'T', 'J', 'exact rest', 'response', 'slack']
+    for kind, _ in named:
+        headings += [f'{kind.word} rest', 'gap']
+    return headings + ['exact points'] + [f'{kind.word} points' for kind, _ in named]
 
 
 def hundredths(parts, frame):
@@ -395,43 +440,59 @@ def hundredths(parts, frame):
     return (2 * 10_000 * parts + frame) // (2 * frame)
 
 
-def leaf_of(frame, accuracy, rows, findings):
-    """The bytes of a leaf, in exact steps where the accuracy is 0."""
+def leaf_of(frame, named, rows, findings):
+    """The bytes of a leaf by a bound that is named, in exact steps where none is."""
     plain = [(rest or 0, points) for rest, points in findings]
-    return write_leaf(frame, 0 if accuracy == 0 else 1, accuracy, rows, plain)
+    return write_leaf(frame, named.kind.number if named else 0, named.accuracy if named else 0, rows, plain)
 
 
-def file_table(data, accuracy, frame=None):
-    """The table that `file` prints, and the leaves in exact steps and by the linear tail."""
-    judged = Judged(data, accuracy, frame)
-    frame, rows = judged.frame, judged.rows
-    exact, linear = survey(frame, EXACT_STEPS, rows), survey(frame, LINEAR_TAILS[accuracy], rows)
-    lines = []
-    for rank, (task, row, by_exact, by_linear) in enumerate(zip(judged.tasks, rows, exact, linear), 1):
-        (rest, points), (tail_rest, tail_points) = by_exact, by_linear
-        response = None if rest is None else rest + row[3]
-        slack = None if rest is None else row[1] - response
-        gap = None if rest is None or tail_rest is None else tail_rest - rest
+def file_cells(rank, task, row, by_exact, by_bounds):
+    """The cells of a row in the table that `file` prints: its findings are told in exact steps and by each bound."""
+    rest, points = by_exact
+    response = None if rest is None else rest + row[3]
+    slack = None if rest is None else row[1] - response
+    cells = [rank, task.name or None, *row, rest_told(rest), response, slack]
+    for later, _ in by_bounds:
+        gap = None if rest is None or later is None else later - rest
         assert (slack is None or slack >= 0) and (gap is None or gap >= 0)
-        lines.append(
-            [rank, task.name or None, *row, rest_told(rest), response, slack, rest_told(tail_rest), gap, points, tail_points]
-        )
+        cells += [rest_told(later), gap]
+    return cells + [points] + [points for _, points in by_bounds]
+
+
+def meets_told(named, exact, bounded):
+    """How many rows meet in exact steps and by each bound."""
+    meet = [sum(rest is not None for rest, _ in findings) for findings in (exact, *bounded)]
+    told = f'{meet[0]} of {len(exact)} rows meet in exact steps'
+    for (kind, _), count in zip(named, meet[1:]):
+        told += f', {count} of {len(exact)} by the {kind.name}'
+    return told + '\n'
+
+
+def file_table(data, named, frame=None):
+    """The table that `file` prints, and its leaves, in exact steps and by each bound, behind their words and short names."""
+    judged = Judged(data, named, frame)
+    frame, rows = judged.frame, judged.rows
+    exact = survey(frame, EXACT_STEPS, rows)
+    bounded = [survey(frame, one.bound, rows) for one in named]
+    lines = [
+        file_cells(rank, task, row, by_exact, by_bounds)
+        for rank, (task, row, by_exact, *by_bounds) in enumerate(zip(judged.tasks, rows, exact, *bounded), 1)
+    ]
     parts = sum(work * (frame // period) for work, _, period, _ in rows)
     percent = hundredths(parts, frame)
-    meet = [sum(rest is not None for rest, _ in findings) for findings in (exact, linear)]
-    told = f'frame {frame}, linear tail of accuracy {accuracy}\n'
-    told += columns(FILE_COLUMNS, lines)
+    told = f'frame {frame}, {", ".join(one.told for one in named)}\n'
+    told += columns(file_columns(named), lines)
     told += f'utilisation {parts}/{frame}, {percent // 100}.{percent % 100:02} %\n'
-    told += f'{meet[0]} of {len(rows)} rows meet in exact steps, {meet[1]} of {len(rows)} by the linear tail\n'
-    return told, leaf_of(frame, 0, rows, exact), leaf_of(frame, accuracy, rows, linear)
+    told += meets_told(named, exact, bounded)
+    leaves = [('exact', 'exact', leaf_of(frame, None, rows, exact))]
+    leaves += [(one.kind.word, one.short, leaf_of(frame, one, rows, found)) for one, found in zip(named, bounded)]
+    return told, leaves
 
 
-def file_lines(data, name, accuracy, frame=None):
+def file_lines(data, name, named, frame=None):
     """What `file` prints: the table, and where it files each leaf."""
-    told, exact, linear = file_table(data, accuracy, frame)
-    for bound, leaf in [('exact', exact), (f'linear-{accuracy}', linear)]:
-        told += f'filed {name}.{bound}.leaf, {len(leaf)} bytes\n'
-    return told
+    told, leaves = file_table(data, named, frame)
+    return told + ''.join(f'filed {name}.{short}.leaf, {len(leaf)} bytes\n' for _, short, leaf in leaves)
 
 
 # --- plot and sheet ----------------------------------------------------------------------------------------
@@ -455,30 +516,37 @@ def drawn_points(bound, row, above, first_rests):
     return len(kept & set(points)), len(points)
 
 
-def plot_numbers(data, rank, accuracy, frame=None):
+def found_told(words, found):
+    """A finding in the description of a picture."""
+    rest, points = found
+    return f'{words} misses points {points}' if rest is None else f'{words} rest {rest} points {points}'
+
+
+def plot_numbers(data, rank, named, frame=None):
     """What the picture of a row tells in its description."""
-    judged = Judged(data, accuracy, frame)
+    judged = Judged(data, named, frame)
     if not judged.rows:
         raise Trouble(f'{refused(NO_RANK)}: the table has no row')
     if not 1 <= rank <= len(judged.rows):
         raise Trouble(f'{refused(NO_RANK)}: expected --rank from 1 to {len(judged.rows)}')
-    told = [f'rank {rank}', f'window {window(judged.rows[rank - 1])}']
-    first_rests = []
-    for words, bound in [('exact', EXACT_STEPS), (f'linear-{accuracy}', LINEAR_TAILS[accuracy])]:
-        rest, points = survey(judged.frame, bound, judged.rows[:rank])[-1]
-        told.append(f'{words} misses points {points}' if rest is None else f'{words} rest {rest} points {points}')
-        first_rests += [] if rest is None else [rest]
     row, above = judged.rows[rank - 1], judged.rows[:rank - 1]
-    drawn, points = drawn_points(LINEAR_TAILS[accuracy], row, above, first_rests)
-    told.append(f'drawn {drawn} of {points} test points by the tail')
+    exact, *bounded = (
+        survey(judged.frame, bound, judged.rows[:rank])[-1] for bound in [EXACT_STEPS, *(one.bound for one in named)]
+    )
+    first_rests = [rest for rest, _ in (exact, *bounded) if rest is not None]
+    told = [f'rank {rank}', f'window {window(row)}', found_told('exact', exact)]
+    for one, found in zip(named, bounded):
+        drawn, points = drawn_points(one.bound, row, above, first_rests)
+        told.append(found_told(one.short, found))
+        told.append(f'drawn {drawn} of {points} test points by the {one.kind.short}')
     return '; '.join(told) + '\n'
 
 
-def sheet_of(data, accuracy=None, frame=None):
-    """The bytes of a table's sheet."""
-    judged = Judged(data, accuracy, frame)
-    heading = write_heading(judged.frame, 0 if accuracy is None else 1, accuracy or 0)
-    return heading + b''.join(write_row(*row) for row in judged.rows)
+def sheet_of(data, named=(), frame=None):
+    """The bytes of a table's sheet, by the one bound that is named, or in exact steps where none is."""
+    judged = Judged(data, named, frame)
+    bound, accuracy = [(one.kind.number, one.accuracy) for one in named][0] if named else (0, 0)
+    return write_heading(judged.frame, bound, accuracy) + b''.join(write_row(*row) for row in judged.rows)
 
 
 # --- respond -----------------------------------------------------------------------------------------------
@@ -545,7 +613,11 @@ class Leaf:
 
     def bound_told(self):
         """The bound in words."""
-        return 'exact steps' if self.bound == 0 else f'linear tail of accuracy {self.accuracy}'
+        return self.bound_name() + (f' of accuracy {self.accuracy}' if self.bound else '')
+
+    def bound_name(self):
+        """The bound in words, without its accuracy."""
+        return next((kind.name for kind in KINDS if kind.number == self.bound), 'exact steps')
 
     def counted(self):
         """Each rank with its row, its first rest, the response, None both where the row misses, and the points."""
@@ -573,11 +645,8 @@ def show_records(leaves):
             values = [leaf.name, leaf.number, WORDS[leaf.number], leaf.place, leaf.around()]
             yield dict(zip(FIELDS, values))
             continue
-        record = {'leaf': leaf.name, 'frame_ticks': leaf.frame}
-        if leaf.bound == 0:
-            record['bound'] = 'exact steps'
-        else:
-            record['bound'] = 'linear tail'
+        record = {'leaf': leaf.name, 'frame_ticks': leaf.frame, 'bound': leaf.bound_name()}
+        if leaf.bound:
             record['accuracy'] = leaf.accuracy
         if not leaf.rows:
             yield record
@@ -665,14 +734,24 @@ def compare(a, b):
 # --- Command lines -----------------------------------------------------------------------------------------
 
 
+# The options that name a bound, in the order of their kinds.
+BOUND_OPTIONS = {f'--{kind.word}': kind for kind in KINDS}
+
+
 def options_of(words):
     """The numbers, and the name, that are named by options."""
     assert len(words) % 2 == 0
     options = {}
     for option, word in zip(words[::2], words[1::2]):
-        assert option == '--out' or option in ('--linear', '--frame', '--rank') and is_number(word)
+        assert option == '--out' or option in (*BOUND_OPTIONS, '--frame', '--rank') and is_number(word)
+        assert option not in options
         options[option] = word if option == '--out' else int(word)
     return options
+
+
+def named_by(options):
+    """The bounds that options name, in the order of their kinds, in whatever order the options stand."""
+    return [Named(kind, options[option]) for option, kind in BOUND_OPTIONS.items() if option in options]
 
 
 def answered(words, read):
@@ -686,16 +765,18 @@ def answered(words, read):
         a, b = words
         return compare(Leaf(a, read(a)), Leaf(b, read(b)))
     data, options = read(words[0]), options_of(words[1:])
-    frame, accuracy = options.get('--frame'), options.get('--linear')
+    frame, named = options.get('--frame'), named_by(options)
+    assert named or subcommand not in ('file', 'plot')
     if subcommand == 'file' and '--out' in options:
-        return file_lines(data, options['--out'], accuracy, frame)
+        return file_lines(data, options['--out'], named, frame)
     if subcommand == 'file':
-        told, exact, linear = file_table(data, accuracy, frame)
-        return f'{told}exact leaf: {exact.hex().upper()}\nlinear leaf: {linear.hex().upper()}\n'
+        told, leaves = file_table(data, named, frame)
+        return told + ''.join(f'{word} leaf: {leaf.hex().upper()}\n' for word, _, leaf in leaves)
     if subcommand == 'plot':
-        return plot_numbers(data, options['--rank'], accuracy, frame)
+        return plot_numbers(data, options['--rank'], named, frame)
     if subcommand == 'sheet':
-        return f'sheet: {sheet_of(data, accuracy, frame).hex().upper()}\n'
+        assert len(named) <= 1
+        return f'sheet: {sheet_of(data, named, frame).hex().upper()}\n'
     assert not options
     if subcommand == 'respond':
         return respond(data)
