@@ -1,7 +1,6 @@
 // What is answered about a row.
 use crate::row_questions::RowQuestion;
 use crate::told::{OrNone, ToldAnswer};
-use batches::Batches;
 use bounds::{Bound, ExactSteps, LinearTail};
 use brackets::{Counts, count_both, least_accuracy, response_time, slow_rest};
 use findings::find;
@@ -50,16 +49,16 @@ pub(crate) fn answer_by_tail<W: Write + Drop>(
     Ok(())
 }
 
-/// Prints what two calls about a row answer by batches: `find`, and `count_both`.
-pub(crate) fn answer_by_batches<W: Write + Drop>(
-    batches: &Batches,
+/// Prints what two calls about a row answer by a bound: `find`, and `count_both`.
+pub(crate) fn answer_by<B: Bound, W: Write + Drop>(
+    bound: &B,
     question: &RowQuestion,
     writer: &mut W,
 ) -> anyhow::Result<()> {
     let table = question.table();
     let table = table.as_ref().map_err(|fault| *fault);
-    let bounded = find_by(batches, &question.row, table);
-    let both = count_both_by(batches, &question.row, table);
+    let bounded = find_by(bound, &question.row, table);
+    let both = count_both_by(bound, &question.row, table);
     writeln!(writer, "{bounded}, {both}")?;
     Ok(())
 }

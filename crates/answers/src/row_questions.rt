@@ -1,7 +1,7 @@
 // Questions about a row.
 use anyhow::{Context, bail};
 use batches::Batches;
-use bounds::LinearTail;
+use bounds::{LinearTail, Staircase};
 use rows::{Fault, FrameNumbers, Numbers, Row, Table};
 use std::alloc::Global;
 use std::str;
@@ -17,12 +17,27 @@ pub(crate) struct RowQuestion {
 /// The question that a line tells, and the linear tail by which it is counted beside the exact steps:
 /// the frame, the accuracy of the tail, and the rows.
 pub(crate) fn with_tail(alloc: Global, line: &[u8]) -> anyhow::Result<(LinearTail, RowQuestion)> {
+    let (accuracy, question) = with_accuracy(alloc, line)?;
+    Ok((LinearTail::new(accuracy)?, question))
+}
+
+/// The question that a line tells, and the staircase by which it is counted: the frame, the accuracy of
+/// the staircase, and the rows.
+pub(crate) fn with_staircase(
+    alloc: Global,
+    line: &[u8],
+) -> anyhow::Result<(Staircase, RowQuestion)> {
+    let (accuracy, question) = with_accuracy(alloc, line)?;
+    Ok((Staircase::new(accuracy)?, question))
+}
+
+// The question that a line tells, and the accuracy of the bound by which it is counted.
+fn with_accuracy(alloc: Global, line: &[u8]) -> anyhow::Result<(u32, RowQuestion)> {
     let numbers = numbers(alloc, str::from_utf8(line)?)?;
     let [frame, accuracy, rows @ ..] = numbers.as_slice() else {
         bail!("no frame and accuracy");
     };
-    let question = RowQuestion::of(alloc, *frame, rows)?;
-    Ok((LinearTail::new(*accuracy)?, question))
+    Ok((*accuracy, RowQuestion::of(alloc, *frame, rows)?))
 }
 
 /// The question that a line tells, and the batches by which it is counted: the frame, the accuracy and

@@ -1,7 +1,7 @@
 // Sections: stored questions of one kind.
 use crate::leaf_answers::{answer_changes, answer_cuts, answer_leaf};
-use crate::row_answers::{answer_by_batches, answer_by_tail};
-use crate::row_questions::{with_batches, with_tail};
+use crate::row_answers::{answer_by, answer_by_tail};
+use crate::row_questions::{with_batches, with_staircase, with_tail};
 use crate::sheet_answers::answer_in_buffers;
 use anyhow::{bail, ensure};
 use scripts::run;
@@ -11,7 +11,8 @@ use std::str;
 
 /// A section, by what is asked in it: about strings of bytes as leaves, each as it stands there, cut
 /// at every length, or with each byte changed to every value; about strings of bytes as
-/// sheets; about rows, by linear tails or by batches; or about one script, with its lines as far as they have come.
+/// sheets; about rows, by linear tails, by batches or by staircases; or about one script, with its lines as far as they
+/// have come.
 #[derive(Drop)]
 pub(crate) enum Section {
     Leaves,
@@ -20,6 +21,7 @@ pub(crate) enum Section {
     Sheets,
     Rows,
     RowsInBatches,
+    RowsByStaircase,
     Script(Vec<u8>),
 }
 
@@ -36,6 +38,7 @@ impl Section {
             ["===", "sheets"] => Ok(Section::Sheets),
             ["===", "rows"] => Ok(Section::Rows),
             ["===", "rows", "batches"] => Ok(Section::RowsInBatches),
+            ["===", "rows", "staircase"] => Ok(Section::RowsByStaircase),
             ["===", "script", _] => Ok(Section::Script(Vec::new(alloc))),
             _ => bail!("no kind of questions"),
         }
@@ -59,7 +62,11 @@ impl Section {
             }
             Section::RowsInBatches => {
                 let (batches, question) = with_batches(alloc, line)?;
-                answer_by_batches(&batches, &question, writer)
+                answer_by(&batches, &question, writer)
+            }
+            Section::RowsByStaircase => {
+                let (staircase, question) = with_staircase(alloc, line)?;
+                answer_by(&staircase, &question, writer)
             }
             Section::Script(script) => Ok(script.extend_from_slice(line)?),
         }
