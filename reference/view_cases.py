@@ -947,7 +947,7 @@ def several_files():
         'worked.csv --staircase 64', 'worked.txt --staircase 1 --linear 1', 'no-names.tsv --linear 1 --staircase 64', 'heading.csv --staircase 1',
         'heading.csv --staircase 64 --linear 1 --frame 12', 'one.csv --staircase 2', 'full.csv --staircase 1', 'full.csv --linear 2 --staircase 3',
         'both-miss.csv --linear 4 --staircase 4', 'tail-misses.csv --staircase 1 --linear 1', 'jitters.csv --staircase 2',
-        'long-windows.csv --linear 7 --staircase 2', 'horizon.csv --staircase 4 --linear 4', 'common.csv --staircase 1', 'whole.csv --linear 64 --staircase 64',
+        'long-windows.csv --linear 7 --staircase 2', 'primes.csv --staircase 1', 'common.csv --staircase 1', 'whole.csv --linear 64 --staircase 64',
         'hundredths.csv --frame 60000 --staircase 1', 'long-names.csv --linear 2 --staircase 1', 'chance-12.csv --staircase 1 --linear 3',
     ]:
         ask(f'file {line}')
@@ -1042,7 +1042,7 @@ def several_plots():
         'staircase-2 misses points 19; drawn 17 of 19 test points by the staircase\n')
     for line in [
         'both-miss.csv --rank 3 --staircase 4', 'tail-misses.csv --rank 3 --linear 2 --staircase 2', 'full.csv --rank 32 --staircase 5 --linear 5',
-        'long-windows.csv --rank 4 --linear 9 --staircase 1', 'long-windows.csv --rank 4 --staircase 64', 'horizon.csv --rank 4 --linear 2 --staircase 2',
+        'long-windows.csv --rank 4 --linear 9 --staircase 1', 'long-windows.csv --rank 4 --staircase 64',
         'chance-12.csv --rank 12 --staircase 1', 'parting.csv --rank 3 --linear 1 --staircase 1',
     ]:
         ask(f'plot {line}')
