@@ -24,8 +24,10 @@ fn play(rt: &impl Clock, work: &Work) -> anyhow::Result<WorkOutcome> {
     match (work.action, work.bound) {
         (Action::Survey, Supplied::ExactSteps) => play_survey(rt, &ExactSteps, work),
         (Action::Survey, Supplied::LinearTail(tail)) => play_survey(rt, &tail, work),
+        (Action::Survey, Supplied::Staircase(stairs)) => play_survey(rt, &stairs, work),
         (Action::Swap(rank), Supplied::ExactSteps) => play_swap(rt, ExactSteps, rank, work),
         (Action::Swap(rank), Supplied::LinearTail(tail)) => play_swap(rt, tail, rank, work),
+        (Action::Swap(rank), Supplied::Staircase(stairs)) => play_swap(rt, stairs, rank, work),
     }
 }
 
