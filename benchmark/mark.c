@@ -32,11 +32,20 @@ struct plan {
     uint64_t height[MOST_ROWS + 1]; /* sum of jitter x work x frame / period */
     int32_t past[MOST_ROWS]; /* no corner lies from here on */
     uint64_t frame;
-    uint32_t bound;
+    struct bound bound;
     const struct row *rows;
 };
 
-static void make_plan(struct plan *plan, uint32_t frame, uint32_t bound, const struct row *rows, size_t count)
+/* From here on no corner of a row lies: where the tail of a linear tail begins, else past the horizon. */
+static int32_t past_corners(struct bound bound, const struct row *row)
+{
+    if (bound.kind != LINEAR_TAIL)
+        return NEVER;
+    int64_t past = (bound.accuracy - 1) * (int64_t)row->period - row->jitter + 1;
+    return past > NEVER ? NEVER : (int32_t)past;
+}
+
+static void make_plan(struct plan *plan, uint32_t frame, struct bound bound, const struct row *rows, size_t count)
 {
     size_t places = (count + LANES - 1) / LANES * LANES;
     plan->frame = frame;
@@ -55,8 +64,7 @@ static void make_plan(struct plan *plan, uint32_t frame, uint32_t bound, const s
         plan->first[i + 1] = plan->first[i] + row->work;
         plan->slope[i + 1] = plan->slope[i] + slope;
         plan->height[i + 1] = plan->height[i] + row->jitter * slope;
-        uint64_t past = (uint64_t)(bound - 1) * row->period - row->jitter + 1;
-        plan->past[i] = bound == 1 ? 0 : bound == EXACT_STEPS || past > NEVER ? NEVER : (int32_t)past;
+        plan->past[i] = past_corners(bound, row);
     }
     for (size_t i = count; i < places; i++)
         plan->work[i] = plan->offset[i] = plan->inverse[i] = 0;
@@ -81,11 +89,35 @@ static int32_t exact_demand(const struct plan *plan, size_t above, int32_t insta
     return (int32_t)(sums[0] + sums[1] + sums[2] + sums[3]) + (int32_t)plan->first[above + 1];
 }
 
+/* How many jobs are counted for some number of them, at least 1, by the staircase of an accuracy: the same up to the
+   accuracy, and else rounded up on the greatest grain, a power of two, that they hold so many times. */
+static inline uint32_t rounded(uint32_t accuracy, uint32_t jobs)
+{
+    if (jobs <= accuracy)
+        return jobs;
+    uint32_t power = (uint32_t)(__builtin_clz(accuracy) - __builtin_clz(jobs));
+    power -= accuracy << power > jobs;
+    uint32_t grain = UINT32_C(1) << power;
+    return (jobs + grain - 1) & ~(grain - 1);
+}
+
+/* The demand by the staircase at an instant from 1 on. */
+static int32_t stair_demand(const struct plan *plan, size_t above, int32_t instant)
+{
+    uint32_t accuracy = plan->bound.accuracy, demand = plan->rows[above].work;
+    for (size_t i = 0; i < above; i++) {
+        uint32_t jobs = (uint32_t)(int32_t)((instant + plan->offset[i]) * plan->inverse[i]) + 1;
+        demand += plan->rows[i].work * rounded(accuracy, jobs);
+    }
+    return demand < NEVER ? (int32_t)demand : NEVER;
+}
+
 /* In a window of so many ticks it is cheaper to leap a little more often than to divide first. */
 enum { SHORT = 4096 };
 
-/* The first rest in exact steps from 1 to `last`, or 0; none lies before `from`. */
-static int32_t exact_rest(const struct plan *plan, size_t above, int32_t from, int32_t last)
+/* The first rest in exact steps or by a staircase, from 1 to `last`, or 0; none lies before `from`. The lower ends of
+   the stairs are those of exact steps, so the line through them is the same. */
+static int32_t stepped_rest(const struct plan *plan, size_t above, int32_t from, int32_t last)
 {
     uint64_t slope = plan->slope[above];
     if (slope >= plan->frame)
@@ -100,7 +132,8 @@ static int32_t exact_rest(const struct plan *plan, size_t above, int32_t from, i
         instant = start > from ? start : from;
     }
     while (instant <= last) {
-        int32_t demand = exact_demand(plan, above, instant);
+        int32_t demand = plan->bound.kind == EXACT_STEPS ? exact_demand(plan, above, instant)
+                                                         : stair_demand(plan, above, instant);
         if (demand <= instant)
             return instant;
         instant = demand;
@@ -139,7 +172,9 @@ static int32_t linear_rest(const struct plan *plan, size_t above, int32_t from, 
 
 static int32_t first_rest(const struct plan *plan, size_t above, int32_t from, int32_t last)
 {
-    return plan->bound == EXACT_STEPS ? exact_rest(plan, above, from, last) : linear_rest(plan, above, from, last);
+    if (plan->bound.kind == LINEAR_TAIL)
+        return linear_rest(plan, above, from, last);
+    return stepped_rest(plan, above, from, last);
 }
 
 /* --- Flags ---------------------------------------------------------------------------------------------- */
@@ -198,6 +233,28 @@ static int32_t first_corner(const struct row *row)
     return (int32_t)(row->period - row->jitter);
 }
 
+/* A walk through the corners of a row: the next one, how far apart they are there, and the corner from which on they
+   are twice as far apart, that of 2 x accuracy jobs of a staircase, then of twice as many. */
+struct walk {
+    int32_t next;
+    int32_t apart;
+    int32_t turn;
+};
+
+static struct walk begin_walk(struct bound bound, const struct row *row)
+{
+    int64_t turn = 2 * bound.accuracy * (int64_t)row->period - row->jitter;
+    int32_t never = bound.kind != STAIRCASE || turn > NEVER;
+    return (struct walk){first_corner(row), (int32_t)row->period, never ? NEVER : (int32_t)turn};
+}
+
+/* The corners from here on are twice as far apart as those before. */
+static void turn_walk(struct walk *walk, const struct row *row)
+{
+    walk->apart *= 2;
+    walk->turn = 2 * walk->turn + (int32_t)row->jitter;
+}
+
 /* --- Flags for all rows of a table ---------------------------------------------------------------------- */
 
 /* The corners of some rows that lie before an instant, flagged, with their number. */
@@ -206,28 +263,32 @@ struct shared {
     uint32_t words; /* so many are in use; the others are of no account */
     uint32_t count;
     size_t rows;
-    int32_t next[MOST_ROWS]; /* the first corner from the end on */
+    struct walk walks[MOST_ROWS]; /* each stands at the first corner from the end on */
 };
 
 static uint64_t shared_flags[HORIZON / 64 + 1];
 
-/* Flags the corners of a row before an instant, from its next one on; answers how many are new. */
-static uint32_t flag_row(int32_t *next, int32_t period, int32_t end)
-{
-    uint32_t added = 0;
-    int32_t corner = *next;
-    for (; corner < end; corner += period) {
-        uint64_t *word = &shared_flags[corner / 64], old = *word;
-        added += ~old >> corner % 64 & 1;
-        *word = old | UINT64_C(1) << corner % 64;
-    }
-    *next = corner;
-    return added;
-}
-
 static uint32_t least_of(int32_t one, int32_t other)
 {
     return (uint32_t)(one < other ? one : other);
+}
+
+/* Flags the corners of a row before an instant, from the next one of its walk on; answers how many are new. */
+static uint32_t flag_row(struct walk *walk, const struct row *row, int32_t end)
+{
+    uint32_t added = 0;
+    while (walk->next < end) {
+        if (walk->next == walk->turn)
+            turn_walk(walk, row);
+        int32_t corner = walk->next, apart = walk->apart, stop = (int32_t)least_of(end, walk->turn);
+        for (; corner < stop; corner += apart) {
+            uint64_t *word = &shared_flags[corner / 64], old = *word;
+            added += ~old >> corner % 64 & 1;
+            *word = old | UINT64_C(1) << corner % 64;
+        }
+        walk->next = corner;
+    }
+    return added;
 }
 
 /* How many distinct corners of the rows above lie before an instant, by the flags of the table. */
@@ -240,30 +301,30 @@ static uint32_t count_shared(struct shared *shared, const struct plan *plan, siz
             shared->words = words;
         }
         for (size_t i = 0; i < shared->rows; i++)
-            shared->count += flag_row(&shared->next[i], (int32_t)plan->rows[i].period,
-                                      (int32_t)least_of(end, plan->past[i]));
+            shared->count += flag_row(&shared->walks[i], &plan->rows[i], (int32_t)least_of(end, plan->past[i]));
         shared->end = end;
     }
     for (; shared->rows < above; shared->rows++) {
         const struct row *row = &plan->rows[shared->rows];
-        int32_t past = plan->past[shared->rows];
-        shared->next[shared->rows] = first_corner(row);
-        shared->count += flag_row(&shared->next[shared->rows], (int32_t)row->period,
-                                  (int32_t)least_of(shared->end, past));
+        struct walk *walk = &shared->walks[shared->rows];
+        *walk = begin_walk(plan->bound, row);
+        shared->count += flag_row(walk, row, (int32_t)least_of(shared->end, plan->past[shared->rows]));
     }
     return end == shared->end ? shared->count : bits_set(shared_flags, (uint32_t)end);
 }
 
 /* --- Few corners in a long time ------------------------------------------------------------------------- */
 
-enum { MOST_HASHED = 4096 };
+/* The corners of a table by a staircase are fewer than 2^16, 26 x 64 of a row, and go into a greater one. */
+enum { MOST_HASHED = 4096, MOST_STAIRS = 1 << 16 };
 
 struct hash {
     uint32_t mask;
     uint32_t shift;
     uint32_t count;
-    int32_t places[2 * MOST_HASHED];
 };
+
+static int32_t hashed[2 * MOST_STAIRS];
 
 static void make_hash(struct hash *hash, uint32_t most)
 {
@@ -273,18 +334,18 @@ static void make_hash(struct hash *hash, uint32_t most)
     hash->mask = (UINT32_C(1) << bits) - 1;
     hash->shift = 32 - bits;
     hash->count = 0;
-    memset(hash->places, 0, (hash->mask + 1) * sizeof *hash->places);
+    memset(hashed, 0, (hash->mask + 1) * sizeof *hashed);
 }
 
 static inline void put(struct hash *hash, int32_t corner)
 {
     uint32_t place = ((uint32_t)corner * UINT32_C(2654435769)) >> hash->shift;
-    while (hash->places[place] != 0) {
-        if (hash->places[place] == corner)
+    while (hashed[place] != 0) {
+        if (hashed[place] == corner)
             return;
         place = (place + 1) & hash->mask;
     }
-    hash->places[place] = corner;
+    hashed[place] = corner;
     hash->count++;
 }
 
@@ -293,9 +354,12 @@ static uint32_t count_hashed(const struct plan *plan, size_t above, int32_t end,
     struct hash hash;
     make_hash(&hash, most);
     for (size_t i = 0; i < above; i++) {
-        int32_t stop = (int32_t)least_of(end, plan->past[i]);
-        for (int32_t corner = first_corner(&plan->rows[i]); corner < stop; corner += (int32_t)plan->rows[i].period)
-            put(&hash, corner);
+        struct walk walk = begin_walk(plan->bound, &plan->rows[i]);
+        for (int32_t stop = (int32_t)least_of(end, plan->past[i]); walk.next < stop; walk.next += walk.apart) {
+            if (walk.next == walk.turn)
+                turn_walk(&walk, &plan->rows[i]);
+            put(&hash, walk.next);
+        }
     }
     return hash.count;
 }
@@ -430,19 +494,41 @@ static double shared_cost(const struct shared *shared, const struct plan *plan, 
     return 3 * marks + longer / 100 + again;
 }
 
+/* The rows above have no more stairs before an instant: as often as the jobs of a row can be halved until they are at
+   most twice the accuracy it has `accuracy` of them, and then one for each job that is left. */
+static double most_stairs(const struct plan *plan, size_t above, int32_t end)
+{
+    double accuracy = plan->bound.accuracy, most = 0;
+    for (size_t i = 0; i < above; i++) {
+        double jobs = (end + plan->offset[i]) * plan->inverse[i] + 1;
+        for (; jobs > 2 * accuracy; jobs /= 2)
+            most += accuracy;
+        most += jobs;
+    }
+    return most;
+}
+
+/* The rows above have no more corners before an instant, counted one by one. */
+static double most_corners(const struct plan *plan, size_t above, int32_t end)
+{
+    double rises = end * plan->rate[above] + (double)above, most = rises;
+    if (plan->bound.kind == LINEAR_TAIL)
+        most = (double)above * (plan->bound.accuracy - 1.0);
+    if (plan->bound.kind == STAIRCASE)
+        most = most_stairs(plan, above, end);
+    return most < rises ? most : rises;
+}
+
 /* How many distinct corners of the rows above lie before an instant, in the way that looks cheapest. */
 static uint32_t count_corners(struct shared *shared, const struct plan *plan, size_t above, int32_t end)
 {
     double cost = above < shared->rows ? 1e30 : shared_cost(shared, plan, above, end);
     if (cost < CHEAP)
         return count_shared(shared, plan, above, end);
-    double marks = end * plan->rate[above] + (double)above;
-    double most = (double)above * (plan->bound - 1.0);
-    if (plan->bound != EXACT_STEPS && most < marks)
-        marks = most;
-    if (marks < MOST_HASHED && 8 * marks < cost)
+    double marks = most_corners(plan, above, end), room = plan->bound.kind == STAIRCASE ? MOST_STAIRS : MOST_HASHED;
+    if (marks < room && 8 * marks < cost)
         return count_hashed(plan, above, end, (uint32_t)marks + 1);
-    if (plan->bound != EXACT_STEPS)
+    if (plan->bound.kind != EXACT_STEPS)
         return count_shared(shared, plan, above, end);
     double blocks = 0.04 * end + 1.5 * marks;
     if (FOLD) {
@@ -453,7 +539,7 @@ static uint32_t count_corners(struct shared *shared, const struct plan *plan, si
     return cost < blocks ? count_shared(shared, plan, above, end) : count_blocks(plan, above, end);
 }
 
-void recount(uint32_t frame, uint32_t bound, const struct row *rows, size_t count, size_t from,
+void recount(uint32_t frame, struct bound bound, const struct row *rows, size_t count, size_t from,
              struct finding *list)
 {
     struct plan plan;

@@ -10,7 +10,7 @@
 
 enum { PLACE_BITS = 5 };
 
-/* No corner is left. Corners and their keys stay below 2^30. */
+/* No corner is left. Corners stay below 2^26, and their keys below 2^31. */
 #define NO_KEY UINT32_MAX
 
 /* The rows above one, as players of a tournament: a key is the next corner of a row, and then its place in the
@@ -125,16 +125,63 @@ ALWAYS_INLINE struct finding merge_linear(uint64_t frame, uint32_t accuracy, con
     }
 }
 
-ALWAYS_INLINE struct finding merge_among(uint32_t frame, uint32_t bound, const struct row *rows, uint32_t above,
+/* A row above under a staircase: what is added to its key and to the demand from one stair to the next, and how
+   many stairs are left until both double. */
+struct stairs {
+    uint32_t further;
+    uint32_t work;
+    uint32_t left;
+};
+
+/* The finding by a staircase. From a stair the next number of jobs that rounds to itself is a grain further, so the
+   demand rises at corners alone, as in exact steps. The grain is 1 up to 2 x accuracy jobs, and doubles there and
+   after each `accuracy` stairs more. */
+ALWAYS_INLINE struct finding merge_stairs(uint32_t accuracy, const struct row *rows, uint32_t above,
+                                          const uint32_t players)
+{
+    struct stairs stairs[MOST_ROWS];
+    struct tournament match;
+    begin(&match, rows, above, 1, players);
+    uint32_t demand = rows[above].work, last = rows[above].deadline - rows[above].jitter;
+    for (uint32_t i = 0; i < above; i++) {
+        stairs[i] = (struct stairs){rows[i].period << PLACE_BITS, rows[i].work, 2 * accuracy - 1};
+        demand += rows[i].work;
+    }
+    struct finding found = {0, 1};
+    for (;; found.points++) {
+        uint32_t nearest = match.winner >> PLACE_BITS, point = nearest < last ? nearest : last;
+        if (demand <= point) {
+            found.rest = demand;
+            return found;
+        }
+        if (point == last)
+            return found;
+        do {
+            struct stairs *row = &stairs[match.winner % MOST_ROWS];
+            if (row->left == 0) {
+                row->further *= 2;
+                row->work *= 2;
+                row->left = accuracy;
+            }
+            row->left--;
+            demand += row->work;
+            replay(&match, match.winner % MOST_ROWS, match.winner + row->further, players);
+        } while (match.winner >> PLACE_BITS == point);
+    }
+}
+
+ALWAYS_INLINE struct finding merge_among(uint32_t frame, struct bound bound, const struct row *rows, uint32_t above,
                                          const uint32_t players)
 {
-    if (bound == EXACT_STEPS)
+    if (bound.kind == EXACT_STEPS)
         return merge_exact(rows, above, players);
-    return merge_linear(frame, bound, rows, above, players);
+    if (bound.kind == LINEAR_TAIL)
+        return merge_linear(frame, bound.accuracy, rows, above, players);
+    return merge_stairs(bound.accuracy, rows, above, players);
 }
 
 /* The finding of the row at a place, below the rows before it. */
-static struct finding merge(uint32_t frame, uint32_t bound, const struct row *rows, uint32_t above)
+static struct finding merge(uint32_t frame, struct bound bound, const struct row *rows, uint32_t above)
 {
     if (above <= 1)
         return merge_among(frame, bound, rows, above, 1);

@@ -19,7 +19,7 @@ struct table {
 struct work {
     char name[64];
     size_t rank;
-    uint32_t bound;
+    struct bound bound;
     unsigned rounds;
     struct table *tables;
     size_t count;
@@ -89,6 +89,20 @@ static uint32_t next_number(char **text)
     return (uint32_t)number;
 }
 
+/* The bound that a word and an accuracy name. */
+static struct bound named(const char *word, uint32_t accuracy)
+{
+    static const char *const words[] = {[EXACT_STEPS] = "exact", [LINEAR_TAIL] = "linear", [STAIRCASE] = "staircase"};
+    enum kind kind = EXACT_STEPS;
+    while (kind <= STAIRCASE && strcmp(word, words[kind]) != 0)
+        kind++;
+    if (kind > STAIRCASE)
+        fail("a bound is exact or linear or staircase");
+    if (kind != EXACT_STEPS && (accuracy < 1 || accuracy > FINEST))
+        fail("an accuracy is 1 to 64");
+    return (struct bound){kind, accuracy};
+}
+
 static void read_work(char **text, struct work *work)
 {
     char *name = next_word(text), *action = next_word(text), *bound = next_word(text);
@@ -100,8 +114,7 @@ static void read_work(char **text, struct work *work)
         work->rank = strtoul(action + 5, NULL, 10);
     else if (strcmp(action, "survey") != 0)
         fail("an action is survey or swap-RANK");
-    uint32_t accuracy = next_number(text);
-    work->bound = strcmp(bound, "exact") == 0 ? EXACT_STEPS : accuracy;
+    work->bound = named(bound, next_number(text));
     work->rounds = next_number(text);
 }
 
@@ -205,7 +218,7 @@ static uint64_t survey_round(const struct work *work, uint64_t digest, size_t *m
 }
 
 /* Takes the row at a rank out: the rows below it are recounted in a copy, which then replaces the bench. */
-static void dismiss(struct bench *bench, uint32_t bound, size_t rank)
+static void dismiss(struct bench *bench, struct bound bound, size_t rank)
 {
     struct bench changed = *bench;
     size_t place = rank - 1, below = bench->count - rank;
@@ -216,7 +229,7 @@ static void dismiss(struct bench *bench, uint32_t bound, size_t rank)
 }
 
 /* Puts a row in at a rank, and answers whether all meet; where some miss the bench stays as it was. */
-static int admit(struct bench *bench, uint32_t bound, size_t rank, struct row row)
+static int admit(struct bench *bench, struct bound bound, size_t rank, struct row row)
 {
     struct bench changed = *bench;
     size_t place = rank - 1, below = bench->count - place;

@@ -5,7 +5,7 @@
 #include <stddef.h>
 #include <stdint.h>
 
-enum { MOST_ROWS = 32, HORIZON = 1 << 24 };
+enum { MOST_ROWS = 32, HORIZON = 1 << 24, FINEST = 64 };
 
 /* A row of a table: docs/RULES.md, Rows. */
 struct row {
@@ -21,12 +21,18 @@ struct finding {
     uint32_t points;
 };
 
-/* The bound that stands for exact steps; a linear tail is its accuracy, 1 to 64. */
-enum { EXACT_STEPS = 0 };
+/* The kinds of bounds: docs/RULES.md, Bounds. */
+enum kind { EXACT_STEPS, LINEAR_TAIL, STAIRCASE };
+
+/* A bound: its kind, and its accuracy, 1 to 64, which is of no account in exact steps. */
+struct bound {
+    enum kind kind;
+    uint32_t accuracy;
+};
 
 /* Puts the findings of the rows from the place `from` on, each below the rows before it, into the list.
    Each program has its own. */
-void recount(uint32_t frame, uint32_t bound, const struct row *rows, size_t count, size_t from,
+void recount(uint32_t frame, struct bound bound, const struct row *rows, size_t count, size_t from,
              struct finding *list);
 
 #endif
