@@ -154,10 +154,12 @@ def works():
     yield "overloaded", "survey", "exact", 64, 1, [overloaded(BINARY, DOUBLING, 3)]
     yield "overloaded-mixed", "survey", "exact", 64, 1, [overloaded(MIXED, mixed_periods(), 4)]
     yield "dense-tail-64", "survey", "linear", 64, 20, [table]
+    yield "dense-stairs-64", "survey", "staircase", 64, 20, [table]
     source = random.Random(7)
     tables = [small(source) for _ in range(100_000)]
     yield "small", "survey", "exact", 64, 1, tables
     yield "small-tail-8", "survey", "linear", 8, 1, tables
+    yield "small-stairs-8", "survey", "staircase", 8, 1, tables
     for power in range(20, 25):
         yield f"growth-{power}", "survey", "exact", 64, 1, [dense(2**power, DOUBLING, 5)]
     yield "sparse-9", "survey", "exact", 64, 1, [sparse(2**9, True)]
