@@ -2,11 +2,11 @@
 
     python3 benchmark/compare.py PROGRAM ..
 
-Each table is a work of its own, surveyed in exact steps and by a linear tail, and where all of its rows meet a
-row of it is swapped. Most tables are small, and counted instant by instant (reference/counts.py). Of the others
-the last row has a long window: the rows above leave so little time that it rests late, and by a tail later still,
-or its points are many, or few in the longest window that there is (reference/pieces.py). The tables come from fixed
-seeds.
+Each table is a work of its own, surveyed in exact steps, by a linear tail and by a staircase of the same accuracy,
+and where all of its rows meet a row of it is swapped. Most tables are small, and counted instant by instant
+(reference/counts.py). Of the others the last row has a long window: the rows above leave so little time that it
+rests late, and by a tail later still, or about as much as a staircase rounds up, or its points are many, or few in
+the longest window that there is (reference/pieces.py). The tables come from fixed seeds.
 """
 
 import random
@@ -17,10 +17,10 @@ from pathlib import Path
 sys.path.append(str(Path(__file__).parent.parent / "reference"))
 
 import pieces
-from counts import EXACT_STEPS, LINEAR_TAILS, steps, survey
+from counts import EXACT_STEPS, LINEAR_TAILS, STAIRCASES, steps, survey
 
 TABLES = 600
-LATE, CROWDED, SPARSE = 120, 30, 20
+LATE, CROWDED, SPARSE, ROUNDED = 120, 30, 20, 128
 HORIZON = 2**24
 WIDE_FRAMES = (55_440, 65_536, 332_640, 720_720, 1_000_000, 1_441_440)
 ACCURACIES = (1, 2, 3, 5, 8, 17, 40, 63, 64)
@@ -101,6 +101,21 @@ def sparse_table(source):
     return HORIZON, rows + [(free + source.choice((1, 0, -source.randint(0, free // 2))), window, HORIZON, 0)]
 
 
+def rounded_table(source, accuracy):
+    """Rows that leave about as much time as the staircase of an accuracy rounds up, above one with a long window."""
+    frame = source.choice(WIDE_FRAMES)
+    periods = divisors(frame, source.choice((2, 30, 200)), 1000)
+    chosen = sorted(source.choice(periods) for _ in range(source.randint(1, 6)))
+    taken = round(frame * (1 - source.choice((0.3, 0.6, 0.8, 1)) / (accuracy + 1)))
+    rows = [[max(1, taken * period // (frame * len(chosen))), period, period, 0] for period in chosen]
+    for row in rows[::-1]:
+        free = taken - sum(work * (frame // period) for work, _, period, _ in rows)
+        row[0] += min(max(0, free) // (frame // row[2]), row[2] - row[0])
+        row[3] = source.choice((0, source.randint(0, row[2] - row[0])))
+    work = source.choice((1, source.randint(1, 300), source.randint(1, frame // (4 * accuracy))))
+    return frame, [tuple(row) for row in rows] + [(work, source.choice((frame, frame // 2)), frame, 0)]
+
+
 def digested(digest, findings):
     """The digest of findings after others."""
     for rest, points in findings:
@@ -109,36 +124,44 @@ def digested(digest, findings):
     return digest
 
 
-def works_of(source, number, frame, rows, accuracy, count):
-    """The texts of the works of a table, and the lines that are to be printed."""
+def steps_and_tail(accuracy):
+    """Exact steps and the linear tail of an accuracy: how a work names each, and the bound."""
+    return ("exact", 64, EXACT_STEPS), ("linear", accuracy, LINEAR_TAILS[accuracy])
+
+
+def stairs(accuracy):
+    """The same of the staircase of an accuracy."""
+    return (("staircase", accuracy, STAIRCASES[accuracy]),)
+
+
+def works_of(source, number, frame, rows, bounds, count):
+    """The texts of the works of a table by some bounds, and the lines that are to be printed."""
     body = f"table {frame}\n" + "".join("row {} {} {} {}\n".format(*row) for row in rows)
-    for name, words, bound in (
-        ("exact", "exact 64", EXACT_STEPS),
-        ("linear", f"linear {accuracy}", LINEAR_TAILS[accuracy]),
-    ):
+    for name, accuracy, bound in bounds:
         found = count(frame, bound, rows)
         met = sum(rest is not None for rest, _ in found)
         told = f"tables 1 rows {len(rows)} met {met} digest"
         title = f"{name}-{number}"
-        yield f"work {title} survey {words} 1\n{body}", f"{title} {told} {digested(0, found)}\n"
+        yield f"work {title} survey {name} {accuracy} 1\n{body}", f"{title} {told} {digested(0, found)}\n"
         if met < len(rows):
             continue
         rank = source.randint(1, len(rows))
         left = count(frame, bound, rows[: rank - 1] + rows[rank:])
         digest = digested(digested(digested(0, left), found), found)
         title = f"swap-{name}-{number}"
-        yield f"work {title} swap-{rank} {words} 2\n{body}", f"{title} {told} {digest}\n"
+        yield f"work {title} swap-{rank} {name} {accuracy} 2\n{body}", f"{title} {told} {digest}\n"
 
 
-def small_works(source):
-    """The works of small tables."""
+def small_works(source, ranks):
+    """The works of small tables. The ranks of swaps by staircases are of another source."""
     for number in range(TABLES):
         frame, rows = random_table(source)
         accuracy = source.choice((1, 2, 3, 8, 64))
-        yield from works_of(source, number, frame, rows, accuracy, survey)
+        yield from works_of(source, number, frame, rows, steps_and_tail(accuracy), survey)
+        yield from works_of(ranks, number, frame, rows, stairs(accuracy), survey)
 
 
-def long_works(source):
+def long_works(source, ranks):
     """The works of tables with long windows; late ones by several accuracies each time."""
     for kind, table, number_of in (
         ("late", late_table, LATE),
@@ -148,12 +171,25 @@ def long_works(source):
         for number in range(number_of):
             frame, rows = table(source)
             accuracy = ACCURACIES[number % len(ACCURACIES)]
-            yield from works_of(source, f"{kind}-{number}", frame, rows, accuracy, pieces.survey)
+            title = f"{kind}-{number}"
+            yield from works_of(source, title, frame, rows, steps_and_tail(accuracy), pieces.survey)
+            yield from works_of(ranks, title, frame, rows, stairs(accuracy), pieces.survey)
+
+
+def rounded_works(source):
+    """The works of tables with about as much time as staircases round up, twice by each accuracy."""
+    for number in range(ROUNDED):
+        accuracy = number % 64 + 1
+        frame, rows = rounded_table(source, accuracy)
+        bounds = steps_and_tail(accuracy) + stairs(accuracy)
+        yield from works_of(source, f"rounded-{number}", frame, rows, bounds, pieces.survey)
 
 
 def main(programs):
     """Compares each program, and tells the lines that differ."""
-    pairs = [*small_works(random.Random(20240229)), *long_works(random.Random(20260311))]
+    ranks = random.Random(20261127)
+    pairs = [*small_works(random.Random(20240229), ranks), *long_works(random.Random(20260311), ranks)]
+    pairs += rounded_works(random.Random(20261128))
     text = "".join(pair[0] for pair in pairs)
     wanted = [pair[1] for pair in pairs]
     status = 0
