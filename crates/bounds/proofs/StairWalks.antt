@@ -1,10 +1,10 @@
 -- From one stair to the next, and from one corner of the staircase to the next.
 use Rattle.std.proofs.Common.{◌≡◌, refl, ℕ, suc, ◌+◌, ◌*◌, ◌/◌, ◌%◌, ◌^◌, ◌<◌, ◌≤◌}
-use Rattle.std.proofs.Common.{true, sym, ap, subst, inl, inr, ⊎_elim, ◌∙◌, arith}
+use Rattle.std.proofs.Common.{true, nat_le, ◌==◌, sym, ap, subst, inl, inr, ⊎_elim, ◌∙◌, arith}
 use Rattle.std.proofs.Common.{lt_of_mul-lt-mul_right}
 use Rattle.std.proofs.Math.Nat.{pow-suc}
 use Rattle.std.proofs.lemmas.Nat.{mul-le, div-add-mod', mod_below}
-use Rattle.std.proofs.lemmas.Bool.{and_from, and_parts, both_ways, cases_Bool, cases_lt}
+use Rattle.std.proofs.lemmas.Bool.{le-leb, or_left, and_from, and_parts, both_ways, cases_Bool, cases_lt}
 use Rattle.rows.specs.declared.tasks.Row.{Row}
 use Rattle.rows.specs.Times.{ceiling}
 use Rattle.rows.specs.Counting.{is_rise}
@@ -65,17 +65,36 @@ module _ (k : ℕ) (some : 1 ≤ k) where
   grain_found n g enough is = grain_unique k some is (grain_is k some n enough)
 
   -- a stair stands with 1 up to k, and past it with its grain
-  pub stands_few : (n : ℕ) → is_stair k n ≡ true → n ≤ k → Stands k n 1
-  stands_few n stair low =
+  pub stands_few : (n : ℕ) → n ≤ k → Stands k n 1
+  stands_few n low =
       record {
-        stair = stair;
+        stair = or_left (nat_le n k) (rounded k n == n) (le-leb n k low);
         few = λ _. refl;
         many = λ high. grain_found n 1 high (grain_by k some 0 refl (omega arith) (omega arith));
       }
 
-  pub stands_many : (n g : ℕ) → is_stair k n ≡ true → k < n → IsGrain k n g → Stands k n g
+  stands_many : (n g : ℕ) → is_stair k n ≡ true → k < n → IsGrain k n g → Stands k n g
   stands_many n g stair high is =
       record { stair = stair; few = λ low. absurd (omega arith); many = λ enough. grain_found n g enough is }
+
+  -- n rounded up on its grain stands with the same grain while that does not fit twice
+  pub lands_fine : (n g m : ℕ) → k < n → IsGrain k n g → m ≡ rounded k n → m < k * (2 * g) → Stands k m g
+  lands_fine n g m many is counted under =
+      let covers = rounded_covers k some n in
+      let stair = subst (λ x. is_stair k x ≡ true) (sym counted) (rounds_at.lands n) in
+      stands_many m g stair (omega (arith, covers))
+      (grain_by k some is.power.0 is.power.1 (omega (arith, is.fits, covers)) under)
+
+  -- and else with one twice as coarse
+  pub lands_coarse : (n g m : ℕ) → k < n → IsGrain k n g → m ≡ rounded k n → k * (2 * g) ≤ m → Stands k m (2 * g)
+  lands_coarse n g m many is counted over =
+      let covers = rounded_covers k some n in
+      let near = rounded_near k some n g (omega arith) is in
+      let stair = subst (λ x. is_stair k x ≡ true) (sym counted) (rounds_at.lands n) in
+      let widens = mul-le 1 g k g some (omega arith) in
+      let twice : 2 * g ≡ 2 ^ suc is.power.0 = omega (arith, is.power.1, pow-suc 2 is.power.0) in
+      stands_many m (2 * g) stair (omega (arith, covers))
+      (grain_by k some (suc is.power.0) twice over (omega (arith, grain_tight k some is, widens, near)))
 
   -- a stair past k is a multiple of its grain
   stair_multiple : (n g : ℕ) → k ≤ n → Stands k n g → (q : ℕ) × (n ≡ q * g)

@@ -1,10 +1,10 @@
 // The staircase: whole steps, counted on a grain that is coarser the more jobs there are.
-ghost use Rattle.std.specs.Prelude.{IsTrue, IfOk, ◌≡◌, ◌+◌, ◌*◌, ◌/◌, ◌≤◌};
+ghost use Rattle.std.specs.Prelude.{IfOk, ◌≡◌, ◌+◌, ◌*◌, ◌/◌, ◌<◌, ◌≤◌};
 ghost use Rattle.rows.specs.Answers.{answer, checked};
 ghost use Rattle.rows.specs.Times.{horizon};
 ghost use Rattle.bounds.specs.Meaning.{accuracy_checks, finest};
 ghost use Rattle.bounds.specs.Instants.{IsFirst};
-ghost use Rattle.bounds.specs.Stairs.{IsGrain, Rounds, Stands, is_stair, rounded};
+ghost use Rattle.bounds.specs.Stairs.{IsGrain, Rounds, Stands, rounded};
 ghost use Rattle.bounds.specs.Supplied.{staircase};
 
 use crate::corners::Corners;
@@ -52,46 +52,57 @@ impl Staircase {
         grain
     }
 
-    // How many jobs are counted for a number of jobs.
+    // More jobs than the accuracy, rounded up on their grain.
     #[tactic(auto, using(crate::proofs::StairWalks::rounded_is))]
+    fn round_up(&self, jobs: u32, grain: u32) -> u32
+        requires many { self.now.accuracy < jobs }
+        requires near { jobs ≤ 3 * horizon }
+        requires grain { IsGrain self.now.accuracy jobs grain }
+        ensures { result ≡ rounded self.now.accuracy jobs }
+    {
+        jobs.next_multiple_of(grain)
+    }
+
+    // The first stair from a number of jobs on, and how far past it the next one is.
+    fn stair_from(&self, jobs: u32) -> (u32, u32)
+        requires { jobs ≤ 3 * horizon }
+        ensures stair { result.0 ≡ rounded self.now.accuracy jobs }
+        ensures stands { Stands self.now.accuracy result.0 result.1 }
+    {
+        if jobs <= self.accuracy {
+            return (jobs, 1);
+        }
+        let grain = self.grain(jobs);
+        let stair = self.round_up(jobs, grain);
+        if stair < self.accuracy * (2 * grain) {
+            (stair, grain)
+        } else {
+            (stair, 2 * grain)
+        }
+    }
+
+    // How many jobs are counted for a number of jobs.
     fn rounded(&self, jobs: u32) -> u32
         requires { jobs ≤ 3 * horizon }
         ensures { result ≡ rounded self.now.accuracy jobs }
     {
-        if jobs <= self.accuracy {
-            return jobs;
-        }
-        jobs.next_multiple_of(self.grain(jobs))
+        let (stair, _) = self.stair_from(jobs);
+        stair
     }
 }
 
 impl Staircase {
     ghost use Rattle.bounds.specs.Answering.{corner_after};
 
-    // How far past a stair the next one is.
-    #[tactic(auto, using(crate::proofs::StairWalks::stands_few, crate::proofs::StairWalks::stands_many))]
-    fn stride(&self, stair: u32) -> u32
-        requires { IsTrue (is_stair self.now.accuracy stair) }
-        ensures { Stands self.now.accuracy stair result }
-    {
-        if stair <= self.accuracy {
-            1
-        } else {
-            self.grain(stair)
-        }
-    }
-
-    // The first stair past the rises of the row that an instant has seen, and the instant of its corner.
-    fn first_past(&self, row: &Row, after: u32, rises: u32) -> (u32, u32)
+    // The instant at which the row has so many jobs, the first stair past those of its rises that an
+    // instant has seen.
+    fn corner_at(&self, row: &Row, after: u32, stair: u32) -> u32
         requires near { after ≤ horizon }
-        requires known { rises ≡ (after + row.now.jitter) / row.now.period }
-        ensures some { 1 ≤ result.0 }
-        ensures stair { IsTrue (is_stair self.now.accuracy result.0) }
-        ensures corner { result.1 + row.now.jitter ≡ result.0 * row.now.period }
-        ensures first { IsFirst ((staircase self.now.accuracy).is_corner row.now) after result.1 result.1 }
+        requires stair { stair ≡ rounded self.now.accuracy ((after + row.now.jitter) / row.now.period + 1) }
+        ensures corner { result + row.now.jitter ≡ stair * row.now.period }
+        ensures first { IsFirst ((staircase self.now.accuracy).is_corner row.now) after result result }
     {
-        let stair = self.rounded(rises + 1);
-        (stair, stair * row.period - row.jitter)
+        stair * row.period - row.jitter
     }
 
     // The first corner of the row after an instant that has seen so many rises, up to the horizon.
@@ -100,7 +111,7 @@ impl Staircase {
         requires known { rises ≡ (after + row.now.jitter) / row.now.period }
         ensures { result ≡ corner_after (staircase self.now.accuracy) row.now after }
     {
-        let (_, corner) = self.first_past(row, after, rises);
+        let corner = self.corner_at(row, after, self.rounded(rises + 1));
         if corner <= HORIZON {
             Some(corner)
         } else {
@@ -115,8 +126,8 @@ impl Staircase {
         ensures accuracy { result.accuracy ≡ self.now.accuracy }
         ensures first { IsFirst ((staircase self.now.accuracy).is_corner row.now) after result.at result.at }
     {
-        let (jobs, at) = self.first_past(row, after, rises_until(row, after));
-        let stride = self.stride(jobs);
+        let (jobs, stride) = self.stair_from(rises_until(row, after) + 1);
+        let at = self.corner_at(row, after, jobs);
         Corners {
             row,
             accuracy: self.accuracy,
