@@ -3,3 +3,4 @@ pub mod Walk
 pub mod Columns
 pub mod Windows
 pub mod Told
+pub mod Bounds

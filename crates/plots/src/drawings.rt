@@ -1,21 +1,21 @@
-// What a picture is drawn of, and the picture, part by part.
+// The picture, from its head to its legend.
 use crate::escaping::escape;
 use crate::filling::{Value, fill};
-use crate::forms::{HEAD, LEGEND};
+use crate::forms::{BOUNDED_LOOKS, DESCRIBED, END, EXACT_LOOKS, FRAME, HEAD, LOOKS, REST_LOOKS};
+use crate::legends::{count_tested, count_told, draw_legend};
 use crate::lines::draw_lines;
 use crate::marks::draw_marks;
-use crate::pictures::{Point, picture_of};
+use crate::pictures::picture_of;
 use crate::plotting::Plot;
-use crate::questions::{Drawing, Names};
+use crate::questions::Drawing;
 use bounds::Bound;
-use rows::Finding;
-use std::alloc::{AllocError, Global};
+use std::alloc::Global;
 use std::io;
 use std::io::Write;
 
 // The title of a picture.
 fn title<B: Bound>(alloc: Global, drawing: &Drawing<'_, B>) -> io::Result<String> {
-    let name = escape(alloc, drawing.names.task)?;
+    let name = escape(alloc, drawing.task)?;
     let rank = drawing.rank;
     let work = drawing.row.work;
     let deadline = drawing.row.deadline;
@@ -28,120 +28,86 @@ fn title<B: Bound>(alloc: Global, drawing: &Drawing<'_, B>) -> io::Result<String
     Ok(title)
 }
 
-// What the bound is called, as text of XML.
-#[derive(Drop)]
-struct Called {
-    short: String,
-    name: String,
-}
-
-impl Called {
-    fn new(alloc: Global, names: &Names<'_>) -> Result<Called, AllocError> {
-        Ok(Called {
-            short: escape(alloc, names.short)?,
-            name: escape(alloc, names.bound)?,
-        })
-    }
-
-    // In short, as `linear-3`.
-    fn short(&self) -> Value<'_> {
-        Value::Words(self.short.as_str())
-    }
-
-    // At length, as `linear tail`.
-    fn name(&self) -> Value<'_> {
-        Value::Words(self.name.as_str())
-    }
-
-    // In one word, the last of its name, as `tail`.
-    fn noun(&self) -> Value<'_> {
-        let name = self.name.as_str();
-        Value::Words(name.split(' ').last().unwrap_or(name))
-    }
-}
-
-// How many points are test points.
-fn count_tested(points: &[Point]) -> Value<'static> {
-    Value::Whole(points.iter().filter(|point| point.tested).count() as u64)
-}
-
-// How many points a finding tells.
-fn count_told(finding: &Finding) -> Value<'static> {
-    Value::Whole(u64::from(finding.points))
-}
-
-// The beginning of a picture: its size, its title and description, and how it looks.
-fn draw_head<'a, B: Bound, W: Write>(
+// The beginning of a picture: its size, its title, and what it shows in words.
+fn draw_head<B: Bound, W: Write>(
     plot: &Plot<'_, B>,
-    title: &'a str,
-    called: &'a Called,
+    title: &str,
     writer: &mut W,
 ) -> io::Result<()> {
     let picture = plot.picture;
-    let title = Value::Words(title);
+    let height = Value::Signed(plot.layout.height());
     let values = [
-        title,
+        height,
+        height,
+        Value::Words(title),
         Value::Whole(plot.drawing.rank as u64),
         Value::Whole(u64::from(picture.window)),
-        Value::Rest(picture.exact_finding.verdict.rest()),
-        count_told(&picture.exact_finding),
-        called.short(),
-        Value::Rest(picture.bounded_finding.verdict.rest()),
-        count_told(&picture.bounded_finding),
-        count_tested(&picture.bounded),
-        Value::Whole(u64::from(picture.points)),
-        called.noun(),
-        title,
+        Value::Rest(picture.exact.finding.verdict.rest()),
+        count_told(&picture.exact.finding),
     ];
-    fill(writer, HEAD, &values)
+    fill(writer, HEAD, &values)?;
+    for shown in &plot.bounds {
+        let curve = &shown.drawn.curve;
+        let values = [
+            shown.short(),
+            Value::Rest(curve.finding.verdict.rest()),
+            count_told(&curve.finding),
+            count_tested(&curve.points),
+            Value::Whole(u64::from(shown.drawn.tests)),
+            shown.noun(),
+        ];
+        fill(writer, DESCRIBED, &values)?;
+    }
+    Ok(())
 }
 
-// What the legend says before a first rest.
-fn first(rest: Option<u32>) -> Value<'static> {
-    Value::Words(if rest.is_some() { "first " } else { "" })
+// How the lines of bounds and their test points look.
+fn draw_bounded_looks<B: Bound, W: Write>(plot: &Plot<'_, B>, writer: &mut W) -> io::Result<()> {
+    for shown in &plot.bounds {
+        let (class, colour) = (shown.class(), shown.colour());
+        let dots = Value::Dots(shown.place);
+        fill(writer, BOUNDED_LOOKS, &[class, colour, dots, class, colour])?;
+    }
+    Ok(())
 }
 
-// The legend, and the end of a picture.
-fn draw_legend<B: Bound, W: Write>(
+// How their first rests look.
+fn draw_rest_looks<B: Bound, W: Write>(plot: &Plot<'_, B>, writer: &mut W) -> io::Result<()> {
+    for shown in &plot.bounds {
+        fill(writer, REST_LOOKS, &[shown.class(), shown.colour()])?;
+    }
+    Ok(())
+}
+
+// How the picture looks.
+fn draw_looks<B: Bound, W: Write>(
     plot: &Plot<'_, B>,
-    called: &Called,
+    title: &str,
     writer: &mut W,
 ) -> io::Result<()> {
-    let picture = plot.picture;
-    let exact_rest = picture.exact_finding.verdict.rest();
-    let bounded_rest = picture.bounded_finding.verdict.rest();
-    let values = [
-        called.name(),
-        called.short(),
-        first(exact_rest),
-        Value::Rest(exact_rest),
-        count_told(&picture.exact_finding),
-        called.short(),
-        first(bounded_rest),
-        Value::Rest(bounded_rest),
-        count_told(&picture.bounded_finding),
-        called.noun(),
-        count_tested(&picture.bounded),
-        Value::Whole(u64::from(picture.points)),
-        count_tested(&picture.exact),
-    ];
-    fill(writer, LEGEND, &values)
+    fill(writer, LOOKS, &[])?;
+    draw_bounded_looks(plot, writer)?;
+    fill(writer, EXACT_LOOKS, &[])?;
+    draw_rest_looks(plot, writer)?;
+    let height = Value::Signed(plot.layout.height());
+    fill(writer, FRAME, &[height, Value::Words(title)])
 }
 
-/// Writes a picture of a row's demand over time, as SVG in UTF-8: the demand in exact steps and by a
-/// bound, the line of service, the window, the test points and both first rests (docs/RULES.md,
-/// Rests). What it shows in whole numbers is `picture_of`. Of each name 40 characters are shown.
+/// Writes a picture of a row's demand over time, as SVG in UTF-8: the demand in exact steps and by each
+/// bound, the line of service, the window, the test points and the first rests (docs/RULES.md, Rests).
+/// What it shows in whole numbers is `picture_of`. Of each name 40 characters are shown.
 pub fn draw<B: Bound, W: Write>(
     alloc: Global,
     drawing: &Drawing<'_, B>,
     writer: &mut W,
 ) -> io::Result<()> {
     let picture = picture_of(alloc, drawing)?;
-    let plot = Plot::new(drawing, &picture);
-    let called = Called::new(alloc, &drawing.names)?;
+    let plot = Plot::new(alloc, drawing, &picture)?;
     let title = title(alloc, drawing)?;
-    draw_head(&plot, title.as_str(), &called, writer)?;
+    draw_head(&plot, title.as_str(), writer)?;
+    draw_looks(&plot, title.as_str(), writer)?;
     draw_lines(&plot, writer)?;
-    draw_marks(&plot, called.short(), writer)?;
-    draw_legend(&plot, &called, writer)
+    draw_marks(alloc, &plot, writer)?;
+    draw_legend(&plot, writer)?;
+    fill(writer, END, &[])
 }

@@ -1,10 +1,17 @@
 // What a picture shows, in whole numbers.
-ghost use Rattle.std.specs.Prelude.{◌≡◌, IfOk, map};
-ghost use Rattle.bounds.specs.Instants.{count};
-ghost use Rattle.rows.specs.Found.{tells, verdict_rest};
-ghost use Rattle.findings.specs.Findings.{is_tested, load_finding};
+ghost use Rattle.std.specs.Prelude.{◌≡◌, ◌++◌, IfOk, OnOk, map};
+ghost use Rattle.std.specs.List.{AllZip};
+ghost use Rattle.std.specs.Option.{option_to_list};
+ghost use Rattle.rows.specs.Found.{tells};
+ghost use Rattle.findings.specs.Findings.{load_finding};
 ghost use Rattle.findings.specs.Lent.{lent_load, lent_window};
-ghost use Rattle.plots.specs.Pictures.{IsCurve, both_rests, point_told};
+ghost use Rattle.plots.specs.Drawn.{
+  drawn_bounded,
+  drawn_exact,
+  drawn_rests,
+  drawn_window,
+};
+ghost use Rattle.plots.specs.Pictures.{IsBoundCurveOf, IsCurve, IsCurveOf, point_told};
 
 use crate::points::{count_points, is_point};
 use crate::questions::Drawing;
@@ -23,31 +30,27 @@ pub struct Point {
     pub tested: bool,
 }
 
-/// What a picture shows, in whole numbers: the window, what is drawn of the demand in exact steps and
-/// by the bound, both findings, and how many test points the window has by the bound.
+/// What is drawn of a demand, and the finding.
+#[derive(Drop)]
+pub struct Curve {
+    pub points: Vec<Point>,
+    pub finding: Finding,
+}
+
+/// The same by a bound, with how many test points the window has by it.
+#[derive(Drop)]
+pub struct BoundCurve {
+    pub curve: Curve,
+    pub tests: u32,
+}
+
+/// What a picture shows, in whole numbers: the window, and what is drawn of the demand in exact steps
+/// and by each bound in turn.
 #[derive(Drop)]
 pub struct Picture {
     pub window: u32,
-    pub exact: Vec<Point>,
-    pub bounded: Vec<Point>,
-    pub exact_finding: Finding,
-    pub bounded_finding: Finding,
-    pub points: u32,
-}
-
-// The first rests that there are.
-fn list_rests(
-    alloc: Global,
-    exact: Option<u32>,
-    bounded: Option<u32>,
-) -> Result<Vec<u32>, AllocError>
-    ensures { IfOk result (λ rests. rests.items ≡ both_rests exact bounded) }
-{
-    match (exact, bounded) {
-        (None, None) => Ok(Vec::new(alloc)),
-        (None, Some(rest)) | (Some(rest), None) => Vec::from_slice(alloc, &[rest]),
-        (Some(first), Some(second)) => Vec::from_slice(alloc, &[first, second]),
-    }
+    pub exact: Curve,
+    pub bounded: Vec<BoundCurve>,
 }
 
 // What is drawn at an instant. Past the horizon nothing is.
@@ -73,8 +76,8 @@ fn draw_points<B: Bound>(
     kept.iter().map(|at| draw_point(demand, *at)).collect(alloc)
 }
 
-// What is drawn of a demand.
-fn curve<B: Bound>(
+// What is drawn of a demand at the instants that are kept of its window.
+fn points<B: Bound>(
     alloc: Global,
     demand: &Demand<'_, B>,
     rests: &[u32],
@@ -86,43 +89,98 @@ fn curve<B: Bound>(
     draw_points(alloc, demand, &kept)
 }
 
-/// What the picture of a row's demand shows, in whole numbers: the window of the row; of both counts
-/// the instants that are kept (see `instants`), with the demand up to each and whether it is a test
-/// point, and the finding; and how many test points the window has by the bound. Out of memory is an
-/// `Err`.
-pub fn picture_of<B: Bound>(alloc: Global, drawing: &Drawing<'_, B>) -> Result<Picture, AllocError>
-    ensures window { IfOk result (λ p. p.window ≡ lent_window drawing.now.bounded) }
-    ensures exact { IfOk result (λ p.
-        IsCurve (lent_load drawing.now.exact) (lent_window drawing.now.exact) COLUMNS
-        (both_rests (verdict_rest p.exact_finding.verdict) (verdict_rest p.bounded_finding.verdict))
-        p.exact.items) }
-    ensures bounded { IfOk result (λ p.
-        IsCurve (lent_load drawing.now.bounded) (lent_window drawing.now.bounded) COLUMNS
-        (both_rests (verdict_rest p.exact_finding.verdict) (verdict_rest p.bounded_finding.verdict))
-        p.bounded.items) }
-    ensures exact_finding { IfOk result (λ p. tells p.exact_finding
-        ≡ load_finding (lent_load drawing.now.exact) (lent_window drawing.now.exact)) }
-    ensures bounded_finding { IfOk result (λ p. tells p.bounded_finding
-        ≡ load_finding (lent_load drawing.now.bounded) (lent_window drawing.now.bounded)) }
-    ensures points { IfOk result (λ p. p.points
-        ≡ count (is_tested (lent_load drawing.now.bounded) (lent_window drawing.now.bounded))
-        (lent_window drawing.now.bounded)) }
+// What is drawn of a demand whose finding is known.
+fn curve_of<B: Bound>(
+    alloc: Global,
+    demand: &Demand<'_, B>,
+    finding: Finding,
+    rests: &[u32],
+) -> Result<Curve, AllocError>
+    requires { tells finding ≡ load_finding (lent_load demand.now) (lent_window demand.now) }
+    ensures { IfOk result
+        (IsCurveOf (lent_load demand.now) (lent_window demand.now) COLUMNS rests.now) }
 {
-    let exact = &drawing.exact;
-    let bounded = &drawing.bounded;
-    let exact_finding = exact.finding();
-    let bounded_finding = bounded.finding();
-    let rests = list_rests(
-        alloc,
-        exact_finding.verdict.rest(),
-        bounded_finding.verdict.rest(),
-    )?;
+    Ok(Curve {
+        points: points(alloc, demand, rests)?,
+        finding,
+    })
+}
+
+// What is drawn of a demand by a bound.
+fn bound_curve_of<B: Bound>(
+    alloc: Global,
+    demand: &Demand<'_, B>,
+    rests: &[u32],
+) -> Result<BoundCurve, AllocError>
+    ensures { IfOk result
+        (IsBoundCurveOf (lent_window demand.now) COLUMNS rests.now (lent_load demand.now)) }
+{
+    Ok(BoundCurve {
+        curve: curve_of(alloc, demand, demand.finding(), rests)?,
+        tests: count_points(demand),
+    })
+}
+
+// What is drawn of the demand by each bound.
+fn bound_curves<B: Bound>(
+    alloc: Global,
+    drawing: &Drawing<'_, B>,
+    rests: &[u32],
+) -> Result<Vec<BoundCurve>, AllocError>
+    ensures { IfOk result (λ curves. AllZip (IsBoundCurveOf (drawn_window drawing.now) COLUMNS rests.now)
+        (drawn_bounded drawing.now) curves.items) }
+{
+    let mut curves = Vec::new(alloc);
+    for named in drawing.bounds {
+        let demand = drawing.demand(named);
+        curves.push(bound_curve_of(alloc, &demand, rests)?)?;
+    }
+    Ok(curves)
+}
+
+// Puts a first rest behind others, where there is one.
+fn push_rest(rests: &mut Vec<u32>, rest: Option<u32>) -> Result<(), AllocError>
+    ensures { OnOk result (rests.new.items ≡ rests.old.items ++ option_to_list rest) }
+{
+    if let Some(at) = rest {
+        rests.push(at)?;
+    }
+    Ok(())
+}
+
+// The first rests that there are: that in exact steps, which is known, and then those by the bounds.
+fn list_rests<B: Bound>(
+    alloc: Global,
+    drawing: &Drawing<'_, B>,
+    exact: Option<u32>,
+) -> Result<Vec<u32>, AllocError>
+    requires { exact ≡ (load_finding (drawn_exact drawing.now) (drawn_window drawing.now)).rest }
+    ensures { IfOk result (λ rests. rests.items ≡ drawn_rests drawing.now) }
+{
+    let mut rests = Vec::new(alloc);
+    push_rest(&mut rests, exact)?;
+    for named in drawing.bounds {
+        push_rest(&mut rests, drawing.rest(named))?;
+    }
+    Ok(rests)
+}
+
+/// What the picture of a row's demand shows, in whole numbers: the window of the row; of each count the
+/// instants that are kept (see `instants`), with the demand up to each and whether it is a test point,
+/// and the finding; and how many test points the window has by each bound. Out of memory is an `Err`.
+pub fn picture_of<B: Bound>(alloc: Global, drawing: &Drawing<'_, B>) -> Result<Picture, AllocError>
+    ensures window { IfOk result (λ p. p.window ≡ drawn_window drawing.now) }
+    ensures exact { IfOk result (λ p. IsCurveOf (drawn_exact drawing.now) (drawn_window drawing.now)
+        COLUMNS (drawn_rests drawing.now) p.exact) }
+    ensures bounded { IfOk result (λ p. AllZip
+        (IsBoundCurveOf (drawn_window drawing.now) COLUMNS (drawn_rests drawing.now))
+        (drawn_bounded drawing.now) p.bounded.items) }
+{
+    let finding = drawing.exact.finding();
+    let rests = list_rests(alloc, drawing, finding.verdict.rest())?;
     Ok(Picture {
-        window: bounded.window(),
-        exact: curve(alloc, exact, &rests)?,
-        bounded: curve(alloc, bounded, &rests)?,
-        exact_finding,
-        bounded_finding,
-        points: count_points(bounded),
+        window: drawing.row.window(),
+        exact: curve_of(alloc, &drawing.exact, finding, &rests)?,
+        bounded: bound_curves(alloc, drawing, &rests)?,
     })
 }

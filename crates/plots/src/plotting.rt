@@ -1,21 +1,40 @@
 // What is drawn, and where its instants and amounts stand.
 ghost use Rattle.std.specs.Prelude.{◌≤◌};
 
-use crate::layout::{FOOT, HEIGHT, LEFT, WIDTH};
+use crate::layout::{FOOT, HEIGHT, LEFT, Layout, WIDTH};
 use crate::pictures::{Picture, Point};
 use crate::questions::Drawing;
 use crate::scales::scale;
+use crate::shown::Shown;
 use bounds::Bound;
+use std::alloc::{AllocError, Global};
 
 // Amounts that pass the top of the picture go on upward as far as so many heights.
 const BEYOND: u32 = 64;
 
-// A drawing with what it shows, and the work at the top of the picture.
+// A drawing with what it shows, its bounds, the work at the top of the picture, and what stands below.
 #[derive(Drop)]
 pub(crate) struct Plot<'a, B: Bound> {
     pub(crate) drawing: &'a Drawing<'a, B>,
     pub(crate) picture: &'a Picture,
+    pub(crate) bounds: Vec<Shown<'a, B>>,
+    pub(crate) layout: Layout,
     pub(crate) top: u32,
+}
+
+// The bounds of a drawing, with what is shown of them.
+fn shown<'a, B: Bound>(
+    alloc: Global,
+    drawing: &'a Drawing<'a, B>,
+    picture: &'a Picture,
+) -> Result<Vec<Shown<'a, B>>, AllocError> {
+    let mut bounds = Vec::new(alloc);
+    for (place, named) in drawing.bounds.iter().enumerate() {
+        if let Some(drawn) = picture.bounded.get(place) {
+            bounds.push(Shown::new(alloc, drawing, place, named, drawn)?)?;
+        }
+    }
+    Ok(bounds)
 }
 
 // The demand at the last of some points.
@@ -23,16 +42,26 @@ fn last(points: &[Point]) -> u64 {
     points.last().map_or(0, |point| point.demand)
 }
 
-// The work at the top: a little above the window and what is drawn, and at most about 1.3 times the
-// window.
+// The highest demand that is drawn at the end of the window.
+fn highest(picture: &Picture) -> u64 {
+    let mut parts = last(&picture.exact.points);
+    for drawn in &picture.bounded {
+        parts = parts.max(last(&drawn.curve.points));
+    }
+    parts
+}
+
+// The work at the top: a little above the window and what is drawn, with room for the label of each
+// bound, and at most about 1.3 times the window.
 fn top(picture: &Picture, unit: u64) -> u32
     requires { 1 ≤ unit }
 {
     let window = u64::from(picture.window);
-    let parts = last(&picture.exact).max(last(&picture.bounded));
-    let work = parts.div_ceil(unit).max(window);
+    let work = highest(picture).div_ceil(unit).max(window);
+    let labels = (picture.bounded.len() as u64).max(1);
     let limit = window * 13 / 10 + 1;
-    let top = (work.saturating_add(work / 20))
+    let top = work
+        .saturating_add((work / 20).saturating_mul(labels))
         .saturating_add(1)
         .min(limit);
     u32::try_from(top).unwrap_or(u32::MAX)
@@ -40,13 +69,18 @@ fn top(picture: &Picture, unit: u64) -> u32
 
 impl<'a, B: Bound> Plot<'a, B> {
     // The drawing on scales that suit it.
-    pub(crate) fn new(drawing: &'a Drawing<'a, B>, picture: &'a Picture) -> Self {
-        let top = top(picture, u64::from(drawing.frame).max(1));
-        Plot {
+    pub(crate) fn new(
+        alloc: Global,
+        drawing: &'a Drawing<'a, B>,
+        picture: &'a Picture,
+    ) -> Result<Plot<'a, B>, AllocError> {
+        Ok(Plot {
             drawing,
             picture,
-            top,
-        }
+            bounds: shown(alloc, drawing, picture)?,
+            layout: Layout::new(picture.bounded.len()),
+            top: top(picture, u64::from(drawing.frame).max(1)),
+        })
     }
 
     // Some work in parts.
@@ -57,46 +91,6 @@ impl<'a, B: Bound> Plot<'a, B> {
     // The demand in exact steps up to an instant, in parts.
     pub(crate) fn exact(&self, at: u32) -> u64 {
         self.drawing.exact.at(at).unwrap_or(0)
-    }
-
-    // The same by the bound.
-    pub(crate) fn bounded(&self, at: u32) -> u64 {
-        self.drawing.bounded.at(at).unwrap_or(0)
-    }
-
-    // Whether the demand by the bound may bend upward at an instant: some row above has a corner there.
-    fn bends(&self, at: u32) -> bool {
-        let Some(before) = at.checked_sub(1) else {
-            return false;
-        };
-        let drawing = self.drawing;
-        drawing.above.rows().iter().any(|row| {
-            drawing.bound.next_corner(drawing.frame, row, before) == Some(at)
-        })
-    }
-
-    // The demand by the bound just after 0 or an instant at which it may bend upward, in parts: where the
-    // line through the two instants behind it comes from; where it may bend upward between those, that at
-    // the first of them. Past the horizon there is none.
-    fn risen(&self, at: u32) -> Option<u64> {
-        let demand = &self.drawing.bounded;
-        let next = at.checked_add(1)?;
-        let first = demand.at(next)?;
-        if self.bends(next) {
-            return Some(first);
-        }
-        let second = demand.at(next.checked_add(1)?)?;
-        Some(first.saturating_sub(second.saturating_sub(first)))
-    }
-
-    // The demand by the bound just after an instant, in parts.
-    pub(crate) fn bounded_after(&self, at: u32) -> u64 {
-        let demand = self.bounded(at);
-        if at == 0 || self.bends(at) {
-            self.risen(at).unwrap_or(demand)
-        } else {
-            demand
-        }
     }
 
     // Where an instant stands on the axis of time, in tenths.

@@ -3,7 +3,7 @@ use Rattle.std.proofs.lemmas.Result.{IfOk-weaker}
 use Rattle.findings.specs.Lent.{lent_load, lent_window}
 use Rattle.plots.proofs.Told.{all_told}
 use Rattle.plots.proofs.Windows.{window_near}
-use Rattle.plots.proofs.pictures.curve.Goals as goal
+use Rattle.plots.proofs.pictures.points.Goals as goal
 
 pub returns : goal.returns
 returns g c =
