@@ -95,11 +95,11 @@ module _ {p q : Phase} {old now : List ℕ} (rs : List Row) (empty : rows_in p �
 
 -- of a sheet for which there is room nothing is left to be checked
 pub sheet_told : (frame : Option FrameNumbers) (bound : Family × ℕ) (numbers : List Numbers) (size n : ℕ)
-    → gives n ≡ checked (filing_checks frame bound numbers) n → sheet_length numbers ≤ size
+    → gives n ≡ checked (filing_checks frame (bound ∷ []) numbers) n → sheet_length numbers ≤ size
     → gives n ≡ checked (sheet_checks frame bound numbers size) n
 sheet_told frame bound numbers size n given room =
     sym (passes_on (ltb size (sheet_length numbers)) ShortBuffer 0 (gives n) (le-ltb size (sheet_length numbers) room))
-    ∙ passed_first (filing_checks frame bound numbers) (room_checks numbers size) n n given n
+    ∙ passed_first (filing_checks frame (bound ∷ []) numbers) (room_checks numbers size) n n given n
 
 -- the rows of numbers, filed behind a heading, are a sheet of these numbers
 pub sheet_written : {p q : Phase} {old between new : List ℕ} (h : Heading) (rs : List Row) (numbers : List Numbers)

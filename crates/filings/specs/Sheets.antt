@@ -20,9 +20,10 @@ sheet_length table = row_place (length table)
 abbrev pub room_checks : List Numbers → ℕ → List Check
 room_checks table size = check (nat_lt size (sheet_length table)) ShortBuffer 0 ∷ []
 
--- what is checked before it is written, in order: all that is checked of the table, and then the buffer
+-- what is checked before it is written, in order: all that is checked of the table that is to be counted by the bound
+-- that the sheet names, and then the buffer
 abbrev pub sheet_checks : Option FrameNumbers → Family × ℕ → List Numbers → ℕ → List Check
-sheet_checks frame bound table size = filing_checks frame bound table ++ room_checks table size
+sheet_checks frame bound table size = filing_checks frame (bound ∷ []) table ++ room_checks table size
 
 -- a table to be surveyed is that of numbers and the numbers of a heading: it is lawful, and its rows are those of the
 -- numbers

@@ -1,5 +1,4 @@
-//! A table of plain numbers judged, given a frame, counted by one bound and filed as a leaf; and its
-//! sheet.
+//! A table of plain numbers judged, given a frame, counted by bounds and filed as leaves; and its sheet.
 #![tactic(auto)]
 
 mod counting;
@@ -9,8 +8,9 @@ mod judging;
 mod progress;
 mod sheet_writing;
 
-pub use counting::{count, count_by};
+pub use counting::count_by;
 pub use filings::Filing;
 pub use frames::common_frame;
+pub use judging::judge;
 pub use progress::{Progress, Quiet};
 pub use sheet_writing::write_sheet;

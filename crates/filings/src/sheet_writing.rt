@@ -12,7 +12,7 @@ ghost use Rattle.filings.specs.Checks.{frame_for};
 ghost use Rattle.filings.specs.Filings.{heading_numbers};
 ghost use Rattle.filings.specs.Sheets.{sheet_checks, sheet_length, IsTableOf};
 
-use crate::judging::{judge, judge_frame};
+use crate::judging::{judge_frame, judge_on};
 use bounds::Family;
 use leaves::{HEADING_SIZE, Heading, ROW_SIZE};
 use rows::{Fault, FrameNumbers, Numbers, Refusal, Table};
@@ -22,8 +22,8 @@ use writing::{RowsLeaf, begin};
 /// Sheets). Its heading tells the frame given, or else the common frame of the periods, and the bound
 /// that a kind and an accuracy name. Answers the length of the sheet in bytes.
 ///
-/// Refused as `count` is, and last with 19, short buffer, at 0 (docs/REFUSALS.md). A refusal leaves
-/// the buffer as it was.
+/// Refused as `judge` is with that bound, and last with 19, short buffer, at 0 (docs/REFUSALS.md). A
+/// refusal leaves the buffer as it was.
 pub fn write_sheet(
     frame: Option<FrameNumbers>,
     family: Family,
@@ -42,7 +42,7 @@ pub fn write_sheet(
 {
     let frame = judge_frame(frame)?;
     let bound = family.bound(accuracy)?;
-    let judged = judge(frame, table)?;
+    let judged = judge_on(frame, table)?;
     if buffer.len() < 1 + HEADING_SIZE + (1 + ROW_SIZE) * table.len() {
         return Err(Refusal::ShortBuffer.at(0));
     }

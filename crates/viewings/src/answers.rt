@@ -2,7 +2,9 @@
 use crate::lines::Line;
 use crate::pictures::told;
 use anyhow::Context;
+use bounds::Family;
 use filings::{Filing, Quiet};
+use rows::FrameNumbers;
 use std::alloc::Global;
 use std::fs;
 use std::io::Write;
@@ -12,14 +14,27 @@ use views::{Counting, Layout, Show, Trouble, count_table, leaf_of};
 pub(crate) fn answer(rt: &HostRuntime, line: &Line<'_>) -> anyhow::Result<Vec<u8>> {
     let alloc = rt.alloc();
     match line {
-        Line::File { table, how } => or_trouble(alloc, file(alloc, &read(rt, table)?, *how)),
+        Line::File { table, options } => {
+            or_trouble(alloc, file(alloc, &read(rt, table)?, options.counting()))
+        }
         Line::Show { layout, leaves } => show(rt, *layout, leaves),
         Line::Compare { first, second } => {
             let (one, other) = (read(rt, first)?, read(rt, second)?);
             or_trouble(alloc, compare(alloc, (first, &one), (second, &other)))
         }
-        Line::Plot { table, rank, how } => plot(alloc, &read(rt, table)?, *rank, *how),
-        Line::Sheet { table, how } => or_trouble(alloc, sheet(alloc, &read(rt, table)?, *how)),
+        Line::Plot {
+            table,
+            rank,
+            options,
+        } => plot(alloc, &read(rt, table)?, *rank, options.counting()),
+        Line::Sheet {
+            table,
+            bound,
+            options,
+        } => or_trouble(
+            alloc,
+            sheet(alloc, &read(rt, table)?, options.frame, *bound),
+        ),
         Line::Respond { table } => or_trouble(alloc, respond(alloc, &read(rt, table)?)),
         Line::Bench { script } => bench(alloc, &read(rt, script)?),
     }
@@ -48,7 +63,7 @@ fn put_hex(alloc: Global, text: &mut Vec<u8>, what: &str, bytes: &[u8]) -> Resul
     writeln!(text, "{what}: {digits}").map_err(Trouble::Output)
 }
 
-fn file(alloc: Global, bytes: &[u8], how: Counting) -> Result<Vec<u8>, Trouble> {
+fn file(alloc: Global, bytes: &[u8], how: Counting<'_>) -> Result<Vec<u8>, Trouble> {
     let mut reader = bytes;
     let mut quiet = Quiet;
     let counted = count_table(alloc, &mut reader, how, &mut quiet);
@@ -57,7 +72,9 @@ fn file(alloc: Global, bytes: &[u8], how: Counting) -> Result<Vec<u8>, Trouble> 
     let mut text = Vec::new(alloc);
     counted.write_table(alloc, &mut text)?;
     put_leaf(alloc, &mut text, counted.exact())?;
-    put_leaf(alloc, &mut text, counted.bounded())?;
+    for filing in counted.bounded() {
+        put_leaf(alloc, &mut text, filing)?;
+    }
     Ok(text)
 }
 
@@ -92,7 +109,7 @@ fn compare(alloc: Global, first: (&str, &[u8]), second: (&str, &[u8])) -> Result
     Ok(text)
 }
 
-fn plot(alloc: Global, bytes: &[u8], rank: u32, how: Counting) -> anyhow::Result<Vec<u8>> {
+fn plot(alloc: Global, bytes: &[u8], rank: u32, how: Counting<'_>) -> anyhow::Result<Vec<u8>> {
     let mut reader = bytes;
     let mut quiet = Quiet;
     let mut picture = Vec::new(alloc);
@@ -107,10 +124,15 @@ fn plot(alloc: Global, bytes: &[u8], rank: u32, how: Counting) -> anyhow::Result
     Ok(text)
 }
 
-fn sheet(alloc: Global, bytes: &[u8], how: Counting) -> Result<Vec<u8>, Trouble> {
+fn sheet(
+    alloc: Global,
+    bytes: &[u8],
+    frame: Option<FrameNumbers>,
+    bound: (Family, u32),
+) -> Result<Vec<u8>, Trouble> {
     let mut reader = bytes;
     let mut sheet = Vec::new(alloc);
-    views::sheet(alloc, &mut reader, how, &mut sheet)?;
+    views::sheet(alloc, &mut reader, frame, bound, &mut sheet)?;
     let mut text = Vec::new(alloc);
     put_hex(alloc, &mut text, "sheet", &sheet)?;
     Ok(text)

@@ -1,18 +1,16 @@
 // Command lines.
-ghost use Rattle.std.specs.Prelude.{◌≡◌, IfOk, Some};
-
 use crate::options::Options;
 use anyhow::{Context, bail};
 use bounds::Family;
 use std::alloc::Global;
-use views::{Counting, Layout};
+use views::Layout;
 
 /// What a command line asks, of files by their names.
 #[derive(Drop)]
 pub(crate) enum Line<'a> {
     File {
         table: &'a str,
-        how: Counting,
+        options: Options,
     },
     Show {
         layout: Layout,
@@ -25,11 +23,12 @@ pub(crate) enum Line<'a> {
     Plot {
         table: &'a str,
         rank: u32,
-        how: Counting,
+        options: Options,
     },
     Sheet {
         table: &'a str,
-        how: Counting,
+        bound: (Family, u32),
+        options: Options,
     },
     Respond {
         table: &'a str,
@@ -44,13 +43,13 @@ impl<'a> Line<'a> {
     pub(crate) fn parse(alloc: Global, text: &'a str) -> anyhow::Result<Line<'a>> {
         let words: Vec<&'a str> = text.split_ascii_whitespace().collect(alloc)?;
         match words.as_slice() {
-            ["file", table, options @ ..] => file(table, options),
+            ["file", table, options @ ..] => file(alloc, table, options),
             ["show", "--csv", leaves @ ..] => show(alloc, Layout::Csv, leaves),
             ["show", "--json", leaves @ ..] => show(alloc, Layout::Json, leaves),
             ["show", leaves @ ..] => show(alloc, Layout::Aligned, leaves),
             ["compare", first, second] => Ok(Line::Compare { first, second }),
-            ["plot", table, options @ ..] => plot(table, options),
-            ["sheet", table, options @ ..] => sheet(table, options),
+            ["plot", table, options @ ..] => plot(alloc, table, options),
+            ["sheet", table, options @ ..] => sheet(alloc, table, options),
             ["respond", table] => Ok(Line::Respond { table }),
             ["bench", script] => Ok(Line::Bench { script }),
             _ => bail!("no command line: {text:?}"),
@@ -58,9 +57,9 @@ impl<'a> Line<'a> {
     }
 }
 
-fn file<'a>(table: &'a str, options: &[&str]) -> anyhow::Result<Line<'a>> {
-    let how = counting(&Options::parse(options)?)?;
-    Ok(Line::File { table, how })
+fn file<'a>(alloc: Global, table: &'a str, options: &[&str]) -> anyhow::Result<Line<'a>> {
+    let options = with_bounds(Options::parse(alloc, options)?)?;
+    Ok(Line::File { table, options })
 }
 
 fn show<'a>(alloc: Global, layout: Layout, leaves: &[&'a str]) -> anyhow::Result<Line<'a>> {
@@ -70,42 +69,34 @@ fn show<'a>(alloc: Global, layout: Layout, leaves: &[&'a str]) -> anyhow::Result
     })
 }
 
-fn plot<'a>(table: &'a str, options: &[&str]) -> anyhow::Result<Line<'a>> {
-    let options = Options::parse(options)?;
+fn plot<'a>(alloc: Global, table: &'a str, options: &[&str]) -> anyhow::Result<Line<'a>> {
+    let options = with_bounds(Options::parse(alloc, options)?)?;
+    let rank = options.rank.context("no rank")?;
     Ok(Line::Plot {
         table,
-        rank: options.rank.context("no rank")?,
-        how: counting(&options)?,
+        rank,
+        options,
     })
 }
 
-fn sheet<'a>(table: &'a str, options: &[&str]) -> anyhow::Result<Line<'a>> {
-    let options = Options::parse(options)?;
-    let bound = options.bound.unwrap_or((Family::ExactSteps, 0));
+fn sheet<'a>(alloc: Global, table: &'a str, options: &[&str]) -> anyhow::Result<Line<'a>> {
+    let options = Options::parse(alloc, options)?;
+    let bound = match options.bounds.as_slice() {
+        [] => (Family::ExactSteps, 0),
+        [bound] => *bound,
+        _ => bail!("more than one accuracy"),
+    };
     Ok(Line::Sheet {
         table,
-        how: counting_by(&options, bound),
+        bound,
+        options,
     })
 }
 
-// How a table is counted.
-fn counting(options: &Options) -> anyhow::Result<Counting>
-    ensures frame { IfOk result (λ how. how.frame ≡ options.now.frame) }
-    ensures bound { IfOk result (λ how. options.now.bound ≡ Some (how.family, how.accuracy)) }
-{
-    let bound = options.bound.context("no accuracy")?;
-    Ok(counting_by(options, bound))
-}
-
-// How a table is counted by the bound that a kind and an accuracy name.
-fn counting_by(options: &Options, bound: (Family, u32)) -> Counting
-    ensures frame { result.frame ≡ options.now.frame }
-    ensures bound { (result.family, result.accuracy) ≡ bound }
-{
-    let (family, accuracy) = bound;
-    Counting {
-        frame: options.frame,
-        family,
-        accuracy,
+// Options that name a bound.
+fn with_bounds(options: Options) -> anyhow::Result<Options> {
+    if options.bounds.is_empty() {
+        bail!("no accuracy");
     }
+    Ok(options)
 }

@@ -3,9 +3,11 @@
 //!
 //! A line of standard input is a command line, in words parted by blanks: `file TABLE --linear K
 //! [--frame H]`, `show [--csv or --json] LEAF ..`, `compare A B`, `plot TABLE --rank R --linear K
-//! [--frame H]`, `sheet TABLE [--linear K] [--frame H]`, `respond TABLE` or `bench SCRIPT`. It is printed
-//! behind `=== `, and below it what it gives: of `file` the table and both leaves in hexadecimal, of `plot`
-//! the picture's description, of `sheet` its bytes in hexadecimal, and of the others what is printed.
+//! [--frame H]`, `sheet TABLE [--linear K] [--frame H]`, `respond TABLE` or `bench SCRIPT`. For `--linear`
+//! there may stand the option of any kind of bounds that has accuracies, and for `file` and `plot` those of
+//! several. It is printed behind `=== `, and below it what it gives: of `file` the table and the leaf of each
+//! count in hexadecimal, of `plot` the picture's description, of `sheet` its bytes in hexadecimal, and of the
+//! others what is printed.
 #![tactic(auto)]
 
 mod answers;

@@ -13,19 +13,19 @@ use Rattle.views.specs.declared.troubles.Trouble.TheVariants as trouble
 use Rattle.views.specs.Troubles.{IsTroubleOf, TellsFault, TellsFlaw, TroubleTells, is_of_row, is_output, of_responses}
 
 -- a fault that is told at a number is a refusal of a row
-pub fault_told : (frame : Option FrameNumbers) (family : Family) (table : TaskTable) (fault : Fault) (t : Trouble)
-    → is_of_row fault.refusal ≡ true → TellsFault table fault t → TroubleTells frame family fault.refusal t
-fault_told frame family table fault (trouble.Row m) row told = (ap (option_map (λ r. r.refusal)) told.refused, row)
-fault_told frame family table fault (trouble.Memory e) row told = tt
-fault_told frame family table fault (trouble.Table e) row told = absurd told
-fault_told frame family table fault trouble.Frame row told = absurd told
-fault_told frame family table fault trouble.NoFrame row told = absurd told
-fault_told frame family table fault (trouble.Accuracy f) row told = absurd told
-fault_told frame family table fault (trouble.Rank n) row told = absurd told
-fault_told frame family table fault (trouble.Damaged d) row told = absurd told
-fault_told frame family table fault (trouble.Different d) row told = absurd told
-fault_told frame family table fault (trouble.Input e) row told = absurd told
-fault_told frame family table fault (trouble.Output e) row told = absurd told
+pub fault_told : (frame : Option FrameNumbers) (bounds : List (Family × ℕ)) (table : TaskTable) (fault : Fault)
+    (t : Trouble) → is_of_row fault.refusal ≡ true → TellsFault table fault t → TroubleTells frame bounds fault.refusal t
+fault_told frame bounds table fault (trouble.Row m) row told = (ap (option_map (λ r. r.refusal)) told.refused, row)
+fault_told frame bounds table fault (trouble.Memory e) row told = tt
+fault_told frame bounds table fault (trouble.Table e) row told = absurd told
+fault_told frame bounds table fault trouble.Frame row told = absurd told
+fault_told frame bounds table fault trouble.NoFrame row told = absurd told
+fault_told frame bounds table fault (trouble.Accuracy f) row told = absurd told
+fault_told frame bounds table fault (trouble.Rank n) row told = absurd told
+fault_told frame bounds table fault (trouble.Damaged d) row told = absurd told
+fault_told frame bounds table fault (trouble.Different d) row told = absurd told
+fault_told frame bounds table fault (trouble.Input e) row told = absurd told
+fault_told frame bounds table fault (trouble.Output e) row told = absurd told
 
 -- where the fault is the first flaw of the table, that is told
 pub flaw_told : (table : TaskTable) (fault : Fault) (t : Trouble)

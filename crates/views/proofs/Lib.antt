@@ -1,10 +1,13 @@
 mod Adds
+mod BadKinds
 mod Cells
 mod Compared
 mod ComparedRows
 mod Counts
+mod Drawn
 mod Failing
 mod Flaws
+mod Growing
 mod Held
 mod Parted
 mod Puts

@@ -1,6 +1,6 @@
 -- What is told of a table that is refused.
-use Rattle.std.proofs.Common.{◌≡◌, ℕ, ◌<◌, ◌≤◌, Bool, false, List, [], ◌∷◌, ◌++◌, length, Option, refl, sym, ap, ◌∙◌}
-use Rattle.std.proofs.Common.{arith, subst}
+use Rattle.std.proofs.Common.{◌≡◌, ℕ, ◌<◌, ◌≤◌, Bool, true, false, List, [], ◌∷◌, ◌++◌, length, Option, refl, sym}
+use Rattle.std.proofs.Common.{ap, ◌∙◌, arith, subst}
 use Rattle.std.specs.Prelude.{◌⊎◌}
 use Rattle.std.proofs.lemmas.Bool.{le-ltb}
 use Rattle.std.proofs.lemmas.List.{length-map}
@@ -13,85 +13,131 @@ use Rattle.rows.specs.Judging.{plain}
 use Rattle.rows.proofs.Checks.{passes_on, refuses_any}
 use Rattle.bounds.specs.declared.families.Family.{Family}
 use Rattle.filings.specs.Checks.{filing_checks}
-use Rattle.filings.specs.Filings.{Filed}
 use Rattle.filings.specs.Sheets.{sheet_checks, sheet_length}
 use Rattle.task_tables.specs.declared.tables.TaskTable.{TaskTable}
 use Rattle.task_tables.specs.Tables.{ReadsAll, table_numbers}
 use Rattle.views.specs.declared.troubles.Trouble.{Trouble}
 use Rattle.views.specs.declared.troubles.Trouble.TheVariants as trouble
-use Rattle.views.specs.Counted.{IsCountOf, TellsRank}
-use Rattle.views.specs.Troubles.{IsTroubleOf, TroubleTells, TellsFirst, is_output, of_row, of_table}
+use Rattle.views.specs.Counted.{CountedTable, IsCountOf, TellsRank}
+use Rattle.views.specs.Troubles.{IsTroubleOf, TroubleTells, TellsFirst, TellsUncounted, is_memory, is_output, of_row}
+use Rattle.views.specs.Troubles.{of_sheet, of_table}
 
--- the first refusal of a table that was read is a trouble of it
-pub table_refused : (held : Option (List ℕ)) (h : Option FrameNumbers) (b : Family × ℕ) (table : TaskTable)
-    (t : Trouble) → ReadsAll held table → TellsFirst h b table t → IsTroubleOf (of_table held h b) t
-table_refused held h b table (trouble.Table e) read refused = absurd refused.told
-table_refused held h b table (trouble.Row m) read refused = record { table = table; read = read; refused = refused }
-table_refused held h b table trouble.Frame read refused = record { table = table; read = read; refused = refused }
-table_refused held h b table trouble.NoFrame read refused = record { table = table; read = read; refused = refused }
-table_refused held h b table (trouble.Accuracy family) read refused =
+-- the first refusal of a table that was read is a trouble of its sheet
+pub sheet_trouble : (held : Option (List ℕ)) (h : Option FrameNumbers) (b : Family × ℕ) (table : TaskTable)
+    (t : Trouble) → ReadsAll held table → TellsFirst h (b ∷ []) table t → IsTroubleOf (of_sheet held h b) t
+sheet_trouble held h b table (trouble.Table e) read refused = absurd refused.told
+sheet_trouble held h b table (trouble.Row m) read refused = record { table = table; read = read; refused = refused }
+sheet_trouble held h b table trouble.Frame read refused = record { table = table; read = read; refused = refused }
+sheet_trouble held h b table trouble.NoFrame read refused = record { table = table; read = read; refused = refused }
+sheet_trouble held h b table (trouble.Accuracy family) read refused =
     record { table = table; read = read; refused = refused }
-table_refused held h b table (trouble.Rank n) read refused = absurd refused.told
-table_refused held h b table (trouble.Damaged d) read refused = absurd refused.told
-table_refused held h b table (trouble.Different d) read refused = absurd refused.told
-table_refused held h b table (trouble.Input e) read refused = absurd refused.told
-table_refused held h b table (trouble.Output e) read refused = absurd refused.told
-table_refused held h b table (trouble.Memory e) read refused = record { table = table; read = read; refused = refused }
+sheet_trouble held h b table (trouble.Rank n) read refused = absurd refused.told
+sheet_trouble held h b table (trouble.Damaged d) read refused = absurd refused.told
+sheet_trouble held h b table (trouble.Different d) read refused = absurd refused.told
+sheet_trouble held h b table (trouble.Input e) read refused = absurd refused.told
+sheet_trouble held h b table (trouble.Output e) read refused = absurd refused.told
+sheet_trouble held h b table (trouble.Memory e) read refused = record { table = table; read = read; refused = refused }
+
+-- a trouble of a table that was read and is not counted is one of the table
+pub table_refused : (held : Option (List ℕ)) (h : Option FrameNumbers) (bs : List (Family × ℕ)) (table : TaskTable)
+    (t : Trouble) → ReadsAll held table → TellsUncounted h bs table t → IsTroubleOf (of_table held h bs) t
+table_refused held h bs table (trouble.Table e) read refused = absurd refused.told
+table_refused held h bs table (trouble.Row m) read refused = record { table = table; read = read; refused = refused }
+table_refused held h bs table trouble.Frame read refused = record { table = table; read = read; refused = refused }
+table_refused held h bs table trouble.NoFrame read refused = record { table = table; read = read; refused = refused }
+table_refused held h bs table (trouble.Accuracy family) read refused =
+    record { table = table; read = read; refused = refused }
+table_refused held h bs table (trouble.Rank n) read refused = absurd refused.told
+table_refused held h bs table (trouble.Damaged d) read refused = absurd refused.told
+table_refused held h bs table (trouble.Different d) read refused = absurd refused.told
+table_refused held h bs table (trouble.Input e) read refused = absurd refused.told
+table_refused held h bs table (trouble.Output e) read refused = absurd refused.told
+table_refused held h bs table (trouble.Memory e) read refused = (table, read)
 
 -- a trouble of a table is one of the row of a rank
-pub row_refused : (rank : ℕ) (held : Option (List ℕ)) (h : Option FrameNumbers) (b : Family × ℕ) (t : Trouble)
-    → IsTroubleOf (of_table held h b) t → IsTroubleOf (of_row rank held h b) t
-row_refused rank held h b (trouble.Table e) is = is
-row_refused rank held h b (trouble.Row m) is = is
-row_refused rank held h b trouble.Frame is = is
-row_refused rank held h b trouble.NoFrame is = is
-row_refused rank held h b (trouble.Accuracy family) is = is
-row_refused rank held h b (trouble.Rank n) is = absurd is.refused.told
-row_refused rank held h b (trouble.Damaged d) is = is
-row_refused rank held h b (trouble.Different d) is = is
-row_refused rank held h b (trouble.Input e) is = is
-row_refused rank held h b (trouble.Output e) is = is
-row_refused rank held h b (trouble.Memory e) is = is
+pub row_refused : (rank : ℕ) (held : Option (List ℕ)) (h : Option FrameNumbers) (bs : List (Family × ℕ)) (t : Trouble)
+    → IsTroubleOf (of_table held h bs) t → IsTroubleOf (of_row rank held h bs) t
+row_refused rank held h bs (trouble.Table e) is = is
+row_refused rank held h bs (trouble.Row m) is = is
+row_refused rank held h bs trouble.Frame is = is
+row_refused rank held h bs trouble.NoFrame is = is
+row_refused rank held h bs (trouble.Accuracy family) is = is
+row_refused rank held h bs (trouble.Rank n) is = absurd is.refused.told
+row_refused rank held h bs (trouble.Damaged d) is = is
+row_refused rank held h bs (trouble.Different d) is = is
+row_refused rank held h bs (trouble.Input e) is = is
+row_refused rank held h bs (trouble.Output e) is = is
+row_refused rank held h bs (trouble.Memory e) is = is
 
 -- what is told of a refusal is no failure of the output
-pub told_no_output : (h : Option FrameNumbers) (a : Family) (r : Refusal) (t : Trouble) → TroubleTells h a r t
-    → is_output t ≡ false
-told_no_output h a r (trouble.Table e) told = refl
-told_no_output h a r (trouble.Row m) told = refl
-told_no_output h a r trouble.Frame told = refl
-told_no_output h a r trouble.NoFrame told = refl
-told_no_output h a r (trouble.Accuracy named) told = refl
-told_no_output h a r (trouble.Rank n) told = refl
-told_no_output h a r (trouble.Damaged d) told = refl
-told_no_output h a r (trouble.Different d) told = refl
-told_no_output h a r (trouble.Input e) told = refl
-told_no_output h a r (trouble.Output e) told = absurd told
-told_no_output h a r (trouble.Memory e) told = refl
+pub told_no_output : (h : Option FrameNumbers) (bs : List (Family × ℕ)) (r : Refusal) (t : Trouble)
+    → TroubleTells h bs r t → is_output t ≡ false
+told_no_output h bs r (trouble.Table e) told = refl
+told_no_output h bs r (trouble.Row m) told = refl
+told_no_output h bs r trouble.Frame told = refl
+told_no_output h bs r trouble.NoFrame told = refl
+told_no_output h bs r (trouble.Accuracy named) told = refl
+told_no_output h bs r (trouble.Rank n) told = refl
+told_no_output h bs r (trouble.Damaged d) told = refl
+told_no_output h bs r (trouble.Different d) told = refl
+told_no_output h bs r (trouble.Input e) told = refl
+told_no_output h bs r (trouble.Output e) told = absurd told
+told_no_output h bs r (trouble.Memory e) told = refl
+
+-- a first refusal that is told is what is told of a table that is not counted
+pub first_uncounted : (h : Option FrameNumbers) (bs : List (Family × ℕ)) (table : TaskTable) (t : Trouble)
+    → TellsFirst h bs table t → TellsUncounted h bs table t
+first_uncounted h bs table (trouble.Table e) first = first
+first_uncounted h bs table (trouble.Row m) first = first
+first_uncounted h bs table trouble.Frame first = first
+first_uncounted h bs table trouble.NoFrame first = first
+first_uncounted h bs table (trouble.Accuracy named) first = first
+first_uncounted h bs table (trouble.Rank n) first = first
+first_uncounted h bs table (trouble.Damaged d) first = first
+first_uncounted h bs table (trouble.Different d) first = first
+first_uncounted h bs table (trouble.Input e) first = first
+first_uncounted h bs table (trouble.Output e) first = first
+first_uncounted h bs table (trouble.Memory e) first = tt
+
+-- and so is it that memory ran out
+pub memory_uncounted : (h : Option FrameNumbers) (bs : List (Family × ℕ)) (table : TaskTable) (t : Trouble)
+    → is_memory t ≡ true → TellsUncounted h bs table t
+memory_uncounted h bs table (trouble.Memory e) memory = tt
+memory_uncounted h bs table (trouble.Table e) memory = cc
+memory_uncounted h bs table (trouble.Row m) memory = cc
+memory_uncounted h bs table trouble.Frame memory = cc
+memory_uncounted h bs table trouble.NoFrame memory = cc
+memory_uncounted h bs table (trouble.Accuracy named) memory = cc
+memory_uncounted h bs table (trouble.Rank n) memory = cc
+memory_uncounted h bs table (trouble.Damaged d) memory = cc
+memory_uncounted h bs table (trouble.Different d) memory = cc
+memory_uncounted h bs table (trouble.Input e) memory = cc
+memory_uncounted h bs table (trouble.Output e) memory = cc
 
 -- a table that was counted and has no row of a rank lacks it
-pub rank_lacking : (rank : ℕ) (held : Option (List ℕ)) (h : Option FrameNumbers) (b : Family × ℕ) (table : TaskTable)
-    (f : Filed) (t : Trouble) → ReadsAll held table → IsCountOf h b table f → TellsRank rank f t
-    → IsTroubleOf (of_row rank held h b) t
-rank_lacking rank held h b table f (trouble.Rank n) read count told =
-    let same : length f.rows ≡ length (table_numbers table) = sym (length-map f.rows plain) ∙ ap length count.tasks in
+pub rank_lacking : (rank : ℕ) (held : Option (List ℕ)) (h : Option FrameNumbers) (bs : List (Family × ℕ))
+    (c : CountedTable) (t : Trouble) → ReadsAll held c.table → IsCountOf h bs c → TellsRank rank c t
+    → IsTroubleOf (of_row rank held h bs) t
+rank_lacking rank held h bs c (trouble.Rank n) read count told =
+    let same : length c.rows ≡ length (table_numbers c.table) = sym (length-map c.rows plain) ∙ ap length count.tasks in
     record {
-      table = table;
+      table = c.table;
       read = read;
       passed = count.passed;
       count = told.0 ∙ same;
       lacks =
           subst (λ n. (rank ≡ 0) ⊎ (n < rank)) (sym told.0) told.1;
     }
-rank_lacking rank held h b table f (trouble.Table e) read count told = absurd told
-rank_lacking rank held h b table f (trouble.Row m) read count told = absurd told
-rank_lacking rank held h b table f trouble.Frame read count told = absurd told
-rank_lacking rank held h b table f trouble.NoFrame read count told = absurd told
-rank_lacking rank held h b table f (trouble.Accuracy family) read count told = absurd told
-rank_lacking rank held h b table f (trouble.Damaged d) read count told = absurd told
-rank_lacking rank held h b table f (trouble.Different d) read count told = absurd told
-rank_lacking rank held h b table f (trouble.Input e) read count told = absurd told
-rank_lacking rank held h b table f (trouble.Output e) read count told = absurd told
-rank_lacking rank held h b table f (trouble.Memory e) read count told = absurd told
+rank_lacking rank held h bs c (trouble.Table e) read count told = absurd told
+rank_lacking rank held h bs c (trouble.Row m) read count told = absurd told
+rank_lacking rank held h bs c trouble.Frame read count told = absurd told
+rank_lacking rank held h bs c trouble.NoFrame read count told = absurd told
+rank_lacking rank held h bs c (trouble.Accuracy family) read count told = absurd told
+rank_lacking rank held h bs c (trouble.Damaged d) read count told = absurd told
+rank_lacking rank held h bs c (trouble.Different d) read count told = absurd told
+rank_lacking rank held h bs c (trouble.Input e) read count told = absurd told
+rank_lacking rank held h bs c (trouble.Output e) read count told = absurd told
+rank_lacking rank held h bs c (trouble.Memory e) read count told = absurd told
 
 -- a last check that passes leaves what the others say
 last_passes : {A : Type 0} (cs : List Check) (wrong : Bool) (n : Refusal) (at : ℕ) (y : A) → wrong ≡ false
@@ -102,8 +148,9 @@ last_passes (c ∷ cs) wrong n at y right = ap (λ o. refuses_at c.refusal c.at 
 -- where a buffer has room for every sheet, a sheet is refused as its table is
 pub sheet_refused : (frame : Option FrameNumbers) (bound : Family × ℕ) (ns : List Numbers) (size : ℕ) (n : Refusal)
     (at y : ℕ) → size ≡ 551 → length ns ≤ 32 → refuses n at ≡ checked (sheet_checks frame bound ns size) y
-    → refuses n at ≡ first_refusal (filing_checks frame bound ns)
+    → refuses n at ≡ first_refusal (filing_checks frame (bound ∷ []) ns)
 sheet_refused frame bound ns size n at y room few refused =
     let fits : sheet_length ns ≤ size = omega (arith, room, few) in
-    refuses_any (filing_checks frame bound ns) n at y
-    (refused ∙ last_passes (filing_checks frame bound ns) _ ShortBuffer 0 y (le-ltb size (sheet_length ns) fits)) tt
+    refuses_any (filing_checks frame (bound ∷ []) ns) n at y
+    (refused
+    ∙ last_passes (filing_checks frame (bound ∷ []) ns) _ ShortBuffer 0 y (le-ltb size (sheet_length ns) fits)) tt

@@ -1,5 +1,5 @@
 -- What rows and findings tell, as texts for people and as fields for programs.
-use Rattle.std.specs.Prelude.{ℕ, ◌+◌, ◌-◌, List, [], ◌∷◌, ◌++◌, Option, decimal, codes, if◌then◌else◌}
+use Rattle.std.specs.Prelude.{ℕ, ◌+◌, ◌-◌, List, [], ◌∷◌, ◌++◌, map, flat_map, Option, decimal, codes, if◌then◌else◌}
 use Rattle.std.specs.Option.{option_map, option_map_or, is_some}
 use Rattle.rows.specs.declared.tasks.Numbers.{Numbers}
 use Rattle.rows.specs.Found.{Found}
@@ -48,15 +48,18 @@ abbrev pub leaf_texts : ℕ → Numbers → Found → List (List ℕ)
 leaf_texts rank n f =
     decimal rank ∷ (four_fields n ++ rest_text f.rest ∷ number_text (response_of n f) ∷ decimal f.points ∷ [])
 
--- a row that was counted twice as a person reads it: its rank, name and numbers, the first rest in exact steps, the
--- response and the slack, the first rest by the linear tail and how much later it is, and the points tested by each
--- count
-abbrev pub counted_texts : ℕ → List ℕ → Numbers → Found → Found → List (List ℕ)
+-- what a bound found beside exact steps: the first rest by it, and how much later that is
+abbrev pub bounded_texts : Found → Found → List (List ℕ)
+bounded_texts exact bounded = rest_text bounded.rest ∷ number_text (gap exact.rest bounded.rest) ∷ []
+
+-- a row that was counted in exact steps and by bounds as a person reads it: its rank, name and numbers, the first rest
+-- in exact steps, the response and the slack, for each bound the first rest and how much later it is, and the points
+-- tested by each count
+abbrev pub counted_texts : ℕ → List ℕ → Numbers → Found → List Found → List (List ℕ)
 counted_texts rank name n exact bounded =
     decimal rank ∷ shown_text name ∷ (four_fields n
-    ++ rest_text exact.rest ∷ number_text (response_of n exact) ∷ number_text (slack_of n exact)
-    ∷ rest_text bounded.rest ∷ number_text (gap exact.rest bounded.rest)
-    ∷ decimal exact.points ∷ decimal bounded.points ∷ [])
+    ++ (rest_text exact.rest ∷ number_text (response_of n exact) ∷ number_text (slack_of n exact)
+    ∷ (flat_map (bounded_texts exact) bounded ++ decimal exact.points ∷ map (λ f. decimal f.points) bounded)))
 
 -- what a program is told of a heading: the name of the leaf, no refusal, what bounds of its kind are called, the
 -- accuracy where there is one bound of the kind for each, and the frame

@@ -2,6 +2,7 @@
 use Rattle.std.specs.Prelude.{◌≡◌, ℕ, ◌<◌, ◌≤◌, ◌⊎◌, ◌-◌, List, [], ◌∷◌, ◌++◌, length, map, take, Option}
 use Rattle.std.specs.Prelude.{slice_index_or}
 use Rattle.rows.specs.declared.frames.FrameNumbers.{FrameNumbers}
+use Rattle.rows.specs.declared.tasks.Row.{Row}
 use Rattle.rows.specs.Answers.{Passes}
 use Rattle.rows.specs.Judging.{plain, rows_of}
 use Rattle.bounds.specs.declared.supplied.Supplied.{Supplied}
@@ -20,21 +21,38 @@ use Rattle.plots.specs.Drawn.{drawn_rank, drawn_task, drawn_row, drawn_exact, dr
 use Rattle.views.specs.declared.troubles.Trouble.{Trouble}
 use Rattle.views.specs.declared.troubles.Trouble.TheVariants as trouble
 
--- a task table that was read and counted: the table, and what was counted of it by the bound that was named
+-- a task table that was read and counted: the table, the frame and the rows that it was judged to be, and the bounds by
+-- which these were counted beside exact steps, each told by its kind and the accuracy
 pub record CountedTable : Type 0 where
   pub table : TaskTable
-  pub filed : Filed
+  pub frame : FrameNumbers
+  pub rows : List Row
+  pub bounds : List (Family × ℕ)
 
--- the same rows on the same frame, counted in exact steps
-abbrev pub in_exact_steps : Filed → Filed
-in_exact_steps f = filed f.frame (exact_kind, 0) f.rows
+-- a counted table, written out
+abbrev pub counted_table : TaskTable → FrameNumbers → List Row → List (Family × ℕ) → CountedTable
+counted_table table h rows bounds = record { table = table; frame = h; rows = rows; bounds = bounds }
+
+-- its rows on its frame, counted by a bound
+abbrev pub counted_by : CountedTable → Family × ℕ → Filed
+counted_by c b = filed c.frame b c.rows
+
+-- its rows on its frame, counted in exact steps
+abbrev pub in_exact_steps : CountedTable → Filed
+in_exact_steps c = counted_by c (exact_kind, 0)
+
+-- and by each of its bounds, in their order
+abbrev pub by_bounds : CountedTable → List Filed
+by_bounds c = map (counted_by c) c.bounds
 
 -- a table is counted: its numbers pass every check, and its tasks are the rows, in their order, on the frame that is
--- named, or else the common one, and by the bound that is named
-pub record IsCountOf (frame : Option FrameNumbers) (bound : Family × ℕ) (table : TaskTable) (f : Filed) : Type 0 where
-  pub passed : Passes (filing_checks frame bound (table_numbers table))
-  pub counted : f ≡ filed (frame_for frame (table_numbers table)) bound (rows_of (table_numbers table))
-  pub tasks : map plain f.rows ≡ table_numbers table
+-- named, or else the common one; and the bounds are those that are named
+pub record IsCountOf (frame : Option FrameNumbers) (bounds : List (Family × ℕ)) (c : CountedTable) : Type 0 where
+  pub passed : Passes (filing_checks frame bounds (table_numbers c.table))
+  pub framed : c.frame ≡ frame_for frame (table_numbers c.table)
+  pub rows : c.rows ≡ rows_of (table_numbers c.table)
+  pub named : c.bounds ≡ bounds
+  pub tasks : map plain c.rows ≡ table_numbers c.table
 
 -- some bytes are the leaf of a counted table: the encoding of its survey by its bound
 pub record IsFiledLeaf (f : Filed) (bytes : List ℕ) : Type 0 where
@@ -43,30 +61,30 @@ pub record IsFiledLeaf (f : Filed) (bytes : List ℕ) : Type 0 where
   pub encoded : bytes ≡ encoding contents
 
 -- a table has a row of a rank
-abbrev pub IsRank : ℕ → Filed → Type 0
-IsRank rank f = (1 ≤ rank) × (rank ≤ length f.rows)
+abbrev pub IsRank : ℕ → CountedTable → Type 0
+IsRank rank c = (1 ≤ rank) × (rank ≤ length c.rows)
 
 -- a table that a reader held was counted, and has a row of the rank
-pub record HasRank (held : Option (List ℕ)) (frame : Option FrameNumbers) (bound : Family × ℕ) (rank : ℕ) : Type 0 where
-  pub table : TaskTable
-  pub filed : Filed
-  pub read : ReadsAll held table
-  pub counted : IsCountOf frame bound table filed
-  pub is_rank : IsRank rank filed
+pub record HasRank (held : Option (List ℕ)) (frame : Option FrameNumbers) (bounds : List (Family × ℕ))
+    (rank : ℕ) : Type 0 where
+  pub counted : CountedTable
+  pub read : ReadsAll held counted.table
+  pub is_count : IsCountOf frame bounds counted
+  pub is_rank : IsRank rank counted
 
 -- it is told how many rows a table has, where it has none of a rank
-abbrev pub TellsRank : ℕ → Filed → Trouble → Type 0
-TellsRank rank f (trouble.Rank rows) = (rows ≡ length f.rows) × ((rank ≡ 0) ⊎ (length f.rows < rank))
-TellsRank rank f _ = ⊥
+abbrev pub TellsRank : ℕ → CountedTable → Trouble → Type 0
+TellsRank rank c (trouble.Rank rows) = (rows ≡ length c.rows) × ((rank ≡ 0) ⊎ (length c.rows < rank))
+TellsRank rank c _ = ⊥
 
 -- a drawing is of the row of a rank of a table that was counted, with its name, below the rows before it, in exact
--- steps and by the bound that it was counted by
+-- steps and by each of the bounds that it was counted by, in their order
 pub record IsDrawnOf {g : _} (rank : ℕ) (c : CountedTable) (drawing : Drawing Supplied g) : Type 0 where
   pub ranked : drawn_rank drawing ≡ rank
   pub named : drawn_task drawing ≡ slice_index_or (table_names c.table) (rank - 1) []
-  pub row : take rank c.filed.rows ≡ take (rank - 1) c.filed.rows ++ drawn_row drawing ∷ []
+  pub row : take rank c.rows ≡ take (rank - 1) c.rows ++ drawn_row drawing ∷ []
   pub exact : drawn_exact drawing
-      ≡ load exact_steps c.filed.frame.ticks (drawn_row drawing).work (take (rank - 1) c.filed.rows)
+      ≡ load exact_steps c.frame.ticks (drawn_row drawing).work (take (rank - 1) c.rows)
   pub bounded : drawn_bounded drawing
-      ≡ load (family_meaning c.filed.bound.0 c.filed.bound.1) c.filed.frame.ticks (drawn_row drawing).work
-      (take (rank - 1) c.filed.rows)
+      ≡ map (λ b. load (family_meaning b.0 b.1) c.frame.ticks (drawn_row drawing).work (take (rank - 1) c.rows))
+      c.bounds

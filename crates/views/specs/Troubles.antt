@@ -1,6 +1,6 @@
 -- What each trouble means.
-use Rattle.std.specs.Prelude.{◌≡◌, ◌≢◌, ℕ, ◌<◌, ◌≤◌, ◌⊎◌, Bool, true, false, List, length, take, is_some, Some, None}
-use Rattle.std.specs.Prelude.{Option, string_bytes}
+use Rattle.std.specs.Prelude.{◌≡◌, ◌≢◌, ℕ, ◌<◌, ◌≤◌, ◌⊎◌, Bool, true, false, List, [], ◌∷◌, length, take, is_some, Some}
+use Rattle.std.specs.Prelude.{None, Option, string_bytes, if◌then◌else◌}
 use Rattle.std.specs.Io.KnownBytes.{Appends, Keeps}
 use Rattle.std.specs.IoError.{error_kind}
 use Rattle.std.specs.declared.io.ErrorKind.TheVariants.{Interrupted}
@@ -10,6 +10,7 @@ use Rattle.rows.specs.declared.refusals.Refusal.{Refusal}
 use Rattle.rows.specs.declared.refusals.Refusal.TheVariants.{BadFrame, BadAccuracy}
 use Rattle.rows.specs.Answers.{refuses, first_refusal, Passes}
 use Rattle.bounds.specs.declared.families.Family.{Family}
+use Rattle.bounds.specs.Families.{can_have}
 use Rattle.leaves.specs.Contents.{Contents}
 use Rattle.reading.specs.Whole.{Fits}
 use Rattle.filings.specs.Checks.{filing_checks}
@@ -32,15 +33,20 @@ is_of_row BadFrame = false
 is_of_row BadAccuracy = false
 is_of_row _ = true
 
--- a trouble tells a refusal of numbers: a bad frame that was named, or that there is none where none was named; a bad
--- accuracy of the kind of bound that was named; or that of a row. Where memory ran out, it is not told
-abbrev pub TroubleTells : Option FrameNumbers → Family → Refusal → Trouble → Type 0
-TroubleTells frame family refusal trouble.Frame = (is_some frame ≡ true) × (refusal ≡ BadFrame)
-TroubleTells frame family refusal trouble.NoFrame = (frame ≡ None) × (refusal ≡ BadFrame)
-TroubleTells frame family refusal (trouble.Accuracy named) = (named ≡ family) × (refusal ≡ BadAccuracy)
-TroubleTells frame family refusal (trouble.Row m) = (refusal_told m ≡ Some refusal) × (is_of_row refusal ≡ true)
-TroubleTells frame family refusal (trouble.Memory e) = Unit {0}
-TroubleTells frame family refusal _ = ⊥
+-- the kind of the first bound whose accuracy is bad, among those that are named
+abbrev pub bad_kind : List (Family × ℕ) → Option Family
+bad_kind [] = None
+bad_kind (b ∷ bounds) = if can_have b.0 b.1 then bad_kind bounds else Some b.0
+
+-- a trouble tells a refusal of numbers: a bad frame that was named, or that there is none where none was named; the
+-- first bad accuracy, by the kind of bound that it was named for; or that of a row. Where memory ran out, it is not told
+abbrev pub TroubleTells : Option FrameNumbers → List (Family × ℕ) → Refusal → Trouble → Type 0
+TroubleTells frame bounds refusal trouble.Frame = (is_some frame ≡ true) × (refusal ≡ BadFrame)
+TroubleTells frame bounds refusal trouble.NoFrame = (frame ≡ None) × (refusal ≡ BadFrame)
+TroubleTells frame bounds refusal (trouble.Accuracy named) = (bad_kind bounds ≡ Some named) × (refusal ≡ BadAccuracy)
+TroubleTells frame bounds refusal (trouble.Row m) = (refusal_told m ≡ Some refusal) × (is_of_row refusal ≡ true)
+TroubleTells frame bounds refusal (trouble.Memory e) = Unit {0}
+TroubleTells frame bounds refusal _ = ⊥
 
 -- a trouble tells a fault of a table: at the number of a task that it is about, where memory does not run out
 abbrev pub TellsFault : TaskTable → Fault → Trouble → Type 0
@@ -54,28 +60,37 @@ TellsFlaw table (trouble.Row m) = IsFlawOf table m
 TellsFlaw table (trouble.Memory e) = Unit {0}
 TellsFlaw table _ = ⊥
 
--- the numbers of a table are refused, on the frame and by the bound that are named, and the first of the refusals is
+-- the numbers of a table are refused, on the frame and by the bounds that are named, and the first of the refusals is
 -- told
-pub record TellsFirst (frame : Option FrameNumbers) (bound : Family × ℕ) (table : TaskTable)
+pub record TellsFirst (frame : Option FrameNumbers) (bounds : List (Family × ℕ)) (table : TaskTable)
     (t : Trouble) : Type 0 where
   pub refusal : Refusal
   pub at : ℕ
-  pub first : refuses refusal at ≡ first_refusal (filing_checks frame bound (table_numbers table))
-  pub told : TroubleTells frame bound.0 refusal t
+  pub first : refuses refusal at ≡ first_refusal (filing_checks frame bounds (table_numbers table))
+  pub told : TroubleTells frame bounds refusal t
 
 -- a trouble tells the first refusal of the table that was read
-pub record TellsRefusal (held : Option (List ℕ)) (frame : Option FrameNumbers) (bound : Family × ℕ)
+pub record TellsRefusal (held : Option (List ℕ)) (frame : Option FrameNumbers) (bounds : List (Family × ℕ))
     (t : Trouble) : Type 0 where
   pub table : TaskTable
   pub read : ReadsAll held table
-  pub refused : TellsFirst frame bound table t
+  pub refused : TellsFirst frame bounds table t
+
+-- a table was read that is not counted: a trouble tells the first refusal, where memory does not run out
+abbrev pub TellsUncounted : Option FrameNumbers → List (Family × ℕ) → TaskTable → Trouble → Type 0
+TellsUncounted frame bounds table (trouble.Memory e) = Unit {0}
+TellsUncounted frame bounds table t = TellsFirst frame bounds table t
+
+-- a table was read
+abbrev pub IsRead : Option (List ℕ) → Type 0
+IsRead held = (table : TaskTable) × ReadsAll held table
 
 -- a table that was read passes its checks and has so many rows, and none of this rank
-pub record LacksRank (held : Option (List ℕ)) (frame : Option FrameNumbers) (bound : Family × ℕ)
+pub record LacksRank (held : Option (List ℕ)) (frame : Option FrameNumbers) (bounds : List (Family × ℕ))
     (rank rows : ℕ) : Type 0 where
   pub table : TaskTable
   pub read : ReadsAll held table
-  pub passed : Passes (filing_checks frame bound (table_numbers table))
+  pub passed : Passes (filing_checks frame bounds (table_numbers table))
   pub count : rows ≡ length (table_numbers table)
   pub lacks : (rank ≡ 0) ⊎ (rows < rank)
 
@@ -98,12 +113,13 @@ TellsDifference c d (trouble.Different difference) = Differ difference c d
 TellsDifference c d (trouble.Memory e) = Unit {0}
 TellsDifference c d _ = ⊥
 
--- what a view is of: a table that a reader holds, with the frame and the bound that are named; the row of a rank of
--- such a table; the response times of a table that a reader holds; two leaves that readers hold, by their names; one
--- leaf; or what was read before
+-- what a view is of: a table that a reader holds, with the frame and the bounds that are named; the row of a rank of
+-- such a table; the sheet of such a table, with one bound; the response times of a table that a reader holds; two
+-- leaves that readers hold, by their names; one leaf; or what was read before
 pub data Subject : Type 0 where
-  of_table : Option (List ℕ) → Option FrameNumbers → Family × ℕ → Subject
-  of_row : ℕ → Option (List ℕ) → Option FrameNumbers → Family × ℕ → Subject
+  of_table : Option (List ℕ) → Option FrameNumbers → List (Family × ℕ) → Subject
+  of_row : ℕ → Option (List ℕ) → Option FrameNumbers → List (Family × ℕ) → Subject
+  of_sheet : Option (List ℕ) → Option FrameNumbers → Family × ℕ → Subject
   of_responses : Option (List ℕ) → Subject
   of_leaves : List ℕ → Option (List ℕ) → List ℕ → Option (List ℕ) → Subject
   of_leaf : Subject
@@ -111,14 +127,18 @@ pub data Subject : Type 0 where
 
 -- what a trouble means, by what the view is of. A table cannot be read: then its text is none, where that is what is
 -- told. Its numbers are refused, or are no rows. It has no row of the rank. A leaf is damaged, the first or else the
--- second. Two leaves differ. An input fails, other than by being interrupted. Of memory nothing is said, and no other
--- trouble can be
+-- second. Two leaves differ. An input fails, other than by being interrupted. Of memory it is said at most that a table
+-- was read, or is refused, and no other trouble can be
 abbrev pub IsTroubleOf : Subject → Trouble → Type 0
-IsTroubleOf (of_table held h b) (trouble.Table e) = is_misread e ≡ true → ReadsNone held
-IsTroubleOf (of_table held h b) t = TellsRefusal held h b t
-IsTroubleOf (of_row rank held h b) (trouble.Table e) = is_misread e ≡ true → ReadsNone held
-IsTroubleOf (of_row rank held h b) (trouble.Rank rows) = LacksRank held h b rank rows
-IsTroubleOf (of_row rank held h b) t = TellsRefusal held h b t
+IsTroubleOf (of_table held h bs) (trouble.Table e) = is_misread e ≡ true → ReadsNone held
+IsTroubleOf (of_table held h bs) (trouble.Memory e) = IsRead held
+IsTroubleOf (of_table held h bs) t = TellsRefusal held h bs t
+IsTroubleOf (of_row rank held h bs) (trouble.Table e) = is_misread e ≡ true → ReadsNone held
+IsTroubleOf (of_row rank held h bs) (trouble.Memory e) = IsRead held
+IsTroubleOf (of_row rank held h bs) (trouble.Rank rows) = LacksRank held h bs rank rows
+IsTroubleOf (of_row rank held h bs) t = TellsRefusal held h bs t
+IsTroubleOf (of_sheet held h b) (trouble.Table e) = is_misread e ≡ true → ReadsNone held
+IsTroubleOf (of_sheet held h b) t = TellsRefusal held h (b ∷ []) t
 IsTroubleOf (of_responses held) (trouble.Table e) = is_misread e ≡ true → ReadsNone held
 IsTroubleOf (of_responses held) (trouble.Row m) = IsFlawFor held m
 IsTroubleOf (of_responses held) (trouble.Memory e) = Unit {0}
@@ -134,6 +154,11 @@ IsTroubleOf of_leaf (trouble.Memory e) = Unit {0}
 IsTroubleOf of_leaf _ = ⊥
 IsTroubleOf of_nothing (trouble.Memory e) = Unit {0}
 IsTroubleOf of_nothing _ = ⊥
+
+-- there was no memory
+abbrev pub is_memory : Trouble → Bool
+is_memory (trouble.Memory e) = true
+is_memory _ = false
 
 -- a trouble of writing, and not of what came before
 abbrev pub is_output : Trouble → Bool

@@ -1,7 +1,16 @@
-// The options that name a bound by its accuracy: one for each kind of bounds that has accuracies.
+// The options that name bounds by their accuracies: one for each kind of bounds that has accuracies.
 use bounds::{FINEST, Family};
 use clap::{Arg, value_parser};
 use std::alloc::{AllocError, Global};
+
+/// How many of the options may be given beside one another.
+#[derive(Clone, Copy)]
+pub(crate) enum HowMany {
+    /// One or more.
+    AtLeastOne,
+    /// One or none.
+    AtMostOne,
+}
 
 /// An option that names a bound: by the word of its kind, with what help says of it.
 #[derive(Drop)]
@@ -29,13 +38,13 @@ impl AccuracyOption {
         Ok(AccuracyOption { word, help })
     }
 
-    /// The option, with what help calls its number. Beside another one it is misused; and where a bound
-    /// is to be named, one of them is required.
+    /// The option, with what help calls its number, among all of them. Where a bound is to be named, one of
+    /// them is required; where at most one may be, it is misused beside another.
     pub(crate) fn arg<'a>(
         &'a self,
         alloc: Global,
         value: &'static str,
-        required: bool,
+        how_many: HowMany,
         all: &[AccuracyOption],
     ) -> Result<Arg<'a>, AllocError> {
         let others = self.others(alloc, all)?;
@@ -43,13 +52,11 @@ impl AccuracyOption {
             .help(self.help.as_str())
             .value_name(value)
             .long(self.word)
-            .value_parser(value_parser!(u32))
-            .required(required && others.is_empty())
-            .conflicts_with_all(&others)?;
-        if required {
-            arg.required_unless_present_any(&others)
-        } else {
-            Ok(arg)
+            .value_parser(value_parser!(u32));
+        match how_many {
+            HowMany::AtLeastOne if others.is_empty() => Ok(arg.required(true)),
+            HowMany::AtLeastOne => arg.required_unless_present_any(&others),
+            HowMany::AtMostOne => arg.conflicts_with_all(&others),
         }
     }
 

@@ -1,5 +1,5 @@
 // The command line, made of the forms of the subcommands.
-use crate::accuracies::AccuracyOption;
+use crate::accuracies::{AccuracyOption, HowMany};
 use crate::forms::{ABOUT, Argument, EXAMPLE, FORMS, Operand, SubcommandForm};
 use clap::{Arg, ArgAction, ArgMatches, Command, Error, value_parser};
 use std::alloc::{AllocError, Global};
@@ -45,8 +45,11 @@ fn subcommand<'a>(
     let mut command = described(alloc, form.name, form.about, form.example);
     for argument in form.arguments {
         command = match argument.takes {
+            Operand::Accuracies(value) => {
+                with_accuracies(alloc, command, accuracies, value, HowMany::AtLeastOne)?
+            }
             Operand::Accuracy(value) => {
-                with_accuracies(alloc, command, accuracies, value, argument.required)?
+                with_accuracies(alloc, command, accuracies, value, HowMany::AtMostOne)?
             }
             _ => command.arg(arg(alloc, argument)?)?,
         };
@@ -54,17 +57,17 @@ fn subcommand<'a>(
     Ok(command)
 }
 
-// A command with the options that name a bound by its accuracy.
+// A command with the options that name bounds by their accuracies.
 fn with_accuracies<'a>(
     alloc: Global,
     command: Command<'a>,
     accuracies: &'a [AccuracyOption],
     value: &'static str,
-    required: bool,
+    how_many: HowMany,
 ) -> Result<Command<'a>, AllocError> {
     let mut command = command;
     for option in accuracies {
-        command = command.arg(option.arg(alloc, value, required, accuracies)?)?;
+        command = command.arg(option.arg(alloc, value, how_many, accuracies)?)?;
     }
     Ok(command)
 }
@@ -77,7 +80,9 @@ fn arg<'a>(alloc: Global, argument: &Argument) -> Result<Arg<'a>, AllocError> {
         Operand::Words(_) => Ok(words(arg)),
         Operand::Text(_) => Ok(arg.long(argument.name)),
         Operand::Lettered(letter, _) => Ok(arg.long(argument.name).short(letter)),
-        Operand::Number(_) | Operand::Accuracy(_) => Ok(number(arg, argument.name)),
+        Operand::Number(_) | Operand::Accuracies(_) | Operand::Accuracy(_) => {
+            Ok(number(arg, argument.name))
+        }
         Operand::Nothing => Ok(flag(arg, argument.name)),
         Operand::NothingBeside(other) => flag(arg, argument.name).conflicts_with(other),
     }
@@ -102,6 +107,7 @@ fn value_name(takes: Operand) -> Option<&'static str> {
         | Operand::Text(name)
         | Operand::Lettered(_, name)
         | Operand::Number(name)
+        | Operand::Accuracies(name)
         | Operand::Accuracy(name) => Some(name),
         Operand::Nothing | Operand::NothingBeside(_) => None,
     }

@@ -4,19 +4,24 @@ use crate::files::{Draft, write_files};
 use crate::inputs::{Source, open_or_complain};
 use crate::outputs::print;
 use crate::progress::Teller;
-use crate::requests::{counting, source};
+use crate::requests::{bounds, frame, source};
 use bounds::Short;
 use clap::ArgMatches;
 use filings::Filing;
-use std::alloc::Global;
+use std::alloc::{AllocError, Global};
 use std::io;
 use std::io::Write;
 use views::{Counted, Counting, Printable, Trouble, count_table, leaf_of};
 
-/// Counts a table twice, files both leaves, and prints the table.
+/// Counts a table in exact steps and by bounds, files the leaf of each count, and prints the table.
 pub(crate) fn file(rt: &HostRuntime, given: &ArgMatches<'_>) -> Result<(), Failed> {
-    let (Some(how), Some(out)) = (counting(given), given.get_str("out")) else {
+    let Some(out) = given.get_str("out") else {
         return Err(misused(rt));
+    };
+    let bounds = bounds(rt, given)?;
+    let how = Counting {
+        frame: frame(given),
+        bounds: &bounds,
     };
     let table = source(given, "table");
     let counted = count(rt, table, how)?;
@@ -25,7 +30,7 @@ pub(crate) fn file(rt: &HostRuntime, given: &ArgMatches<'_>) -> Result<(), Faile
     file_leaves(rt, &counted, &drafts, given.get_flag("force"))
 }
 
-// Files both leaves, and prints the table.
+// Files the leaves, and prints the table.
 fn file_leaves(
     rt: &HostRuntime,
     counted: &Counted,
@@ -37,7 +42,7 @@ fn file_leaves(
 }
 
 // Reads a table and counts it.
-fn count(rt: &HostRuntime, table: Source<'_>, how: Counting) -> Result<Counted, Failed> {
+fn count(rt: &HostRuntime, table: Source<'_>, how: Counting<'_>) -> Result<Counted, Failed> {
     let mut reader = open_or_complain(rt, table)?;
     let mut told = Teller::begin(rt);
     let counted = count_table(rt.alloc(), &mut reader, how, &mut told);
@@ -45,11 +50,20 @@ fn count(rt: &HostRuntime, table: Source<'_>, how: Counting) -> Result<Counted, 
     or_complain(rt, table.name(), counted)
 }
 
-// The two leaves of a table that was counted, to be filed.
-fn drafts(alloc: Global, counted: &Counted, out: &str) -> Result<[Draft; 2], Trouble> {
-    let exact = draft(alloc, out, counted.exact())?;
-    let bounded = draft(alloc, out, counted.bounded())?;
-    Ok([exact, bounded])
+// The leaves of a table that was counted, to be filed: in exact steps, and by each bound in order.
+fn drafts(alloc: Global, counted: &Counted, out: &str) -> Result<Vec<Draft>, Trouble> {
+    let mut drafts = Vec::new(alloc);
+    put(&mut drafts, draft(alloc, out, counted.exact())?)?;
+    for filing in counted.bounded() {
+        put(&mut drafts, draft(alloc, out, filing)?)?;
+    }
+    Ok(drafts)
+}
+
+// Puts a leaf that is to be filed behind others.
+fn put(drafts: &mut Vec<Draft>, draft: Draft) -> Result<(), AllocError> {
+    drafts.push(draft)?;
+    Ok(())
 }
 
 // The leaf of a count, to be filed under a name that ends in the short one of its bound.

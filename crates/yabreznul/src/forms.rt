@@ -13,8 +13,10 @@ pub(crate) enum Operand {
     Lettered(char, &'static str),
     /// A number behind the name of the option.
     Number(&'static str),
-    /// The accuracy of a bound, behind the word of its kind: an option for each kind of bounds that has
-    /// accuracies, of which one may be given.
+    /// The accuracies of bounds, each behind the word of its kind: an option for each kind of bounds that
+    /// has accuracies, of which at least one is to be given.
+    Accuracies(&'static str),
+    /// The accuracy of a bound, behind the word of its kind: the same options, of which one may be given.
     Accuracy(&'static str),
     /// Nothing.
     Nothing,
@@ -42,7 +44,7 @@ pub(crate) struct SubcommandForm {
 
 /// What the command is about, and an example.
 pub(crate) const ABOUT: &str =
-    "Counts the demand of fixed-priority tasks, in exact steps and by a linear tail";
+    "Counts the demand of fixed-priority tasks, in exact steps and by bounds";
 
 pub(crate) const EXAMPLE: &str = "Example:\n  yabreznul file worked.csv --linear 3 --out worked";
 
@@ -51,9 +53,9 @@ pub(crate) const FORMS: &[SubcommandForm] = &[FILE, SHOW, COMPARE, PLOT, SHEET, 
 
 const FILE: SubcommandForm = SubcommandForm {
     name: "file",
-    about: "Counts a task table twice, files both leaves and prints the table",
+    about: "Counts a task table in exact steps and by bounds, files the leaves and prints the table",
     example: EXAMPLE,
-    arguments: &[TABLE, ACCURACY, FRAME, OUT, FORCE],
+    arguments: &[TABLE, ACCURACIES, FRAME, OUT, FORCE],
 };
 
 const SHOW: SubcommandForm = SubcommandForm {
@@ -74,14 +76,14 @@ const PLOT: SubcommandForm = SubcommandForm {
     name: "plot",
     about: "Draws the demand of one row as a picture",
     example: "Example:\n  yabreznul plot worked.csv --rank 3 --linear 3 -o third.svg",
-    arguments: &[TABLE, RANK, ACCURACY, FRAME, OUTPUT, FORCE],
+    arguments: &[TABLE, RANK, ACCURACIES, FRAME, OUTPUT, FORCE],
 };
 
 const SHEET: SubcommandForm = SubcommandForm {
     name: "sheet",
     about: "Writes the sheet of a table, which survey answers",
     example: "Example:\n  yabreznul sheet worked.csv --linear 3 | survey > worked.leaf",
-    arguments: &[TABLE, ANY_ACCURACY, FRAME],
+    arguments: &[TABLE, ACCURACY, FRAME],
 };
 
 const RESPOND: SubcommandForm = SubcommandForm {
@@ -105,16 +107,18 @@ const TABLE: Argument = Argument {
     help: "The task table; - or none is standard input",
 };
 
+const ACCURACIES: Argument = Argument {
+    name: "accuracies",
+    takes: Operand::Accuracies("K"),
+    required: true,
+    help: "The bounds by their accuracies",
+};
+
 const ACCURACY: Argument = Argument {
     name: "accuracy",
     takes: Operand::Accuracy("K"),
-    required: true,
-    help: "The bound by its accuracy",
-};
-
-const ANY_ACCURACY: Argument = Argument {
     required: false,
-    ..ACCURACY
+    help: "The bound by its accuracy",
 };
 
 const FRAME: Argument = Argument {
@@ -128,7 +132,7 @@ const OUT: Argument = Argument {
     name: "out",
     takes: Operand::Text("NAME"),
     required: true,
-    help: "Names the leaves: NAME.exact.leaf and NAME.linear-K.leaf",
+    help: "Names the leaves: NAME.exact.leaf, and as NAME.linear-K.leaf that of each bound",
 };
 
 const FORCE: Argument = Argument {

@@ -4,15 +4,20 @@ use crate::files::{Draft, write_files};
 use crate::inputs::{Source, open_or_complain};
 use crate::outputs::print;
 use crate::progress::Teller;
-use crate::requests::{counting, source};
+use crate::requests::{bounds, frame, source};
 use clap::ArgMatches;
 use std::alloc::Global;
 use views::{Counting, Trouble};
 
 /// Draws the demand of one row, to a file or to standard output.
 pub(crate) fn plot(rt: &HostRuntime, given: &ArgMatches<'_>) -> Result<(), Failed> {
-    let (Some(rank), Some(how)) = (given.get_one("rank"), counting(given)) else {
+    let Some(rank) = given.get_one("rank") else {
         return Err(misused(rt));
+    };
+    let bounds = bounds(rt, given)?;
+    let how = Counting {
+        frame: frame(given),
+        bounds: &bounds,
     };
     let table = source(given, "table");
     let picture = draw(rt, table, rank, how)?;
@@ -27,7 +32,12 @@ pub(crate) fn plot(rt: &HostRuntime, given: &ArgMatches<'_>) -> Result<(), Faile
 }
 
 // The picture of a row.
-fn draw(rt: &HostRuntime, table: Source<'_>, rank: u32, how: Counting) -> Result<Vec<u8>, Failed> {
+fn draw(
+    rt: &HostRuntime,
+    table: Source<'_>,
+    rank: u32,
+    how: Counting<'_>,
+) -> Result<Vec<u8>, Failed> {
     let mut reader = open_or_complain(rt, table)?;
     let mut told = Teller::begin(rt);
     let mut picture = Vec::new(rt.alloc());

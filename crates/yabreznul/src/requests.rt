@@ -1,10 +1,11 @@
 // What the arguments of a subcommand ask.
+use crate::complaints::{Failed, misused, out_of_memory};
 use crate::inputs::Source;
 use bounds::Family;
 use clap::ArgMatches;
 use rows::FrameNumbers;
 use std::alloc::{AllocError, Global};
-use views::{Counting, Layout};
+use views::Layout;
 
 /// The input or output that an argument names; the standard stream where it is not given.
 pub(crate) fn source<'a>(given: &ArgMatches<'a>, name: &str) -> Source<'a> {
@@ -40,33 +41,46 @@ pub(crate) fn frame(given: &ArgMatches<'_>) -> Option<FrameNumbers> {
     Some(FrameNumbers { ticks })
 }
 
-/// How a table is counted; none where no bound is named. A kind of bounds is named by the option of its
-/// accuracies, which is called by its word.
-pub(crate) fn counting(given: &ArgMatches<'_>) -> Option<Counting> {
-    for family in Family::all() {
-        if family.has_accuracies() {
-            if let Some(accuracy) = given.get_one(family.word()) {
-                let frame = frame(given);
-                return Some(Counting {
-                    frame,
-                    family,
-                    accuracy,
-                });
-            }
-        }
+/// The bounds that are named, of which there is to be one: by kind and accuracy, in the order of the kinds.
+pub(crate) fn bounds(
+    rt: &HostRuntime,
+    given: &ArgMatches<'_>,
+) -> Result<Vec<(Family, u32)>, Failed> {
+    match named(rt.alloc(), given) {
+        Ok(bounds) if bounds.is_empty() => Err(misused(rt)),
+        Ok(bounds) => Ok(bounds),
+        Err(_) => Err(out_of_memory(rt, "command line")),
     }
-    None
 }
 
-/// How a table is counted; in exact steps where no bound is named.
-pub(crate) fn counting_or_exact(given: &ArgMatches<'_>) -> Counting {
-    match counting(given) {
-        Some(how) => how,
-        None => Counting {
-            frame: frame(given),
-            family: Family::ExactSteps,
-            accuracy: 0,
-        },
+// The bounds that are named, in the order of the kinds.
+fn named(alloc: Global, given: &ArgMatches<'_>) -> Result<Vec<(Family, u32)>, AllocError> {
+    let mut bounds = Vec::new(alloc);
+    for family in Family::all() {
+        if let Some(accuracy) = accuracy(given, family) {
+            bounds.push((family, accuracy))?;
+        }
+    }
+    Ok(bounds)
+}
+
+/// The bound that is named, by kind and accuracy; exact steps where none is.
+pub(crate) fn bound_or_exact(given: &ArgMatches<'_>) -> (Family, u32) {
+    for family in Family::all() {
+        if let Some(accuracy) = accuracy(given, family) {
+            return (family, accuracy);
+        }
+    }
+    (Family::ExactSteps, 0)
+}
+
+// The accuracy of a bound of a kind, where one is named: by the option that is called by the word of the
+// kind.
+fn accuracy(given: &ArgMatches<'_>, family: Family) -> Option<u32> {
+    if family.has_accuracies() {
+        given.get_one(family.word())
+    } else {
+        None
     }
 }
 

@@ -1,4 +1,4 @@
-use Rattle.std.proofs.Common.{◌≡◌, ◌≤◌, length, sym, ap, ap₂, ◌∙◌, subst, arith}
+use Rattle.std.proofs.Common.{◌≡◌, ◌≤◌, [], ◌∷◌, length, sym, ap, ap₂, ◌∙◌, subst, arith}
 use Rattle.std.proofs.lemmas.Result.{err_from_is_err_and}
 use Rattle.rows.specs.Answers.{gives}
 use Rattle.rows.specs.Books.{IsJudged, book}
@@ -19,10 +19,10 @@ returns-in_err-judged-clause-answered c =
     let fault = c.in_err-judged.field-0.0 in
     let refused =
     table_refused c.args.frame
-    (c.args.family, c.args.accuracy) numbers c.in_ok-frame.frame c.in_ok-frame.ensures _ _ c.in_ok-bound.ensures
+    ((c.args.family, c.args.accuracy) ∷ []) numbers c.in_ok-frame.frame c.in_ok-frame.ensures _ _ c.in_ok-bound.ensures
     fault.refusal fault.at _ c.in_err-judged.ensures.answered (sheet_length numbers) in
     rw (p.1, p.2)
-    (refused_first (filing_checks c.args.frame (c.args.family, c.args.accuracy) numbers)
+    (refused_first (filing_checks c.args.frame ((c.args.family, c.args.accuracy) ∷ []) numbers)
     (room_checks numbers (length c.args.buffer.now)) fault.refusal fault.at (sheet_length numbers) refused
     (sheet_length numbers))
 
@@ -52,8 +52,8 @@ returns-clause-answered c =
     ) in
     let room : sheet_length numbers ≤ length c.args.buffer.now = omega (arith, c.if-buffer-table.false) in
     let given = table_given c.args.frame
-    (c.args.family, c.args.accuracy) numbers c.in_ok-frame.frame c.in_ok-frame.ensures _ _ c.in_ok-bound.ensures _ _
-    c.in_ok-judged.ensures.answered (sheet_length numbers) in
+    ((c.args.family, c.args.accuracy) ∷ []) numbers c.in_ok-frame.frame c.in_ok-frame.ensures _ _
+    c.in_ok-bound.ensures _ _ c.in_ok-judged.ensures.answered (sheet_length numbers) in
     ap gives place
     ∙ sheet_told c.args.frame (c.args.family, c.args.accuracy) numbers (length c.args.buffer.now)
     (sheet_length numbers) given room
