@@ -2,7 +2,7 @@
 use std::alloc::{AllocError, Global};
 
 // How high a line of labels is, in tenths.
-pub(crate) const LINE: i64 = 150;
+const LINE: i64 = 150;
 
 // The room of a label: from where to where, and its foot, in tenths.
 #[derive(Clone, Copy)]
@@ -43,8 +43,8 @@ impl Labels {
         }
     }
 
-    // Puts a label as many lines above its room as it takes to meet none, and tells how many. In the way
-    // of one are at most two lines.
+    // Puts a label into its room, or as many lines above it as it takes to meet none of those before,
+    // each of which is in the way of two lines at most; and tells how far above, in units.
     pub(crate) fn put(&mut self, room: Room) -> Result<i64, AllocError> {
         let mut lines = 0i64;
         for _ in 0..self.rooms.len().saturating_mul(2) {
@@ -54,6 +54,6 @@ impl Labels {
             }
         }
         self.rooms.push(room.higher(lines))?;
-        Ok(lines)
+        Ok(lines.saturating_mul(LINE / 10))
     }
 }

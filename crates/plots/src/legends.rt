@@ -62,15 +62,15 @@ fn draw_rests<B: Bound, W: Write>(plot: &Plot<'_, B>, writer: &mut W) -> io::Res
     Ok(())
 }
 
-// One mark like those of some test points, with its middle at a height.
+// One mark like those of some test points, beginning at a height, in tenths.
 fn draw_mark<W: Write>(
     (begin, form): (&str, &str),
     class: &[Value<'_>],
-    top: i64,
+    y: i64,
     writer: &mut W,
 ) -> io::Result<()> {
     fill(writer, begin, class)?;
-    fill(writer, form, &[Value::Signed(MARK), Value::Tenths(top)])?;
+    fill(writer, form, &[Value::Signed(MARK), Value::Tenths(y)])?;
     fill(writer, MARKED, &[])
 }
 

@@ -1,7 +1,7 @@
 // The marks of a picture: test points below the axis of time, and first rests on the curves.
 use crate::filling::{Value, fill};
 use crate::forms::{CIRCLE, DIAMOND, DIAMONDS, LABEL, LANE, MARKED, SQUARE, STROKE, STROKES};
-use crate::labels::{LINE, Labels, Room};
+use crate::labels::{Labels, Room};
 use crate::layout::{FOOT, LEFT};
 use crate::pictures::Point;
 use crate::plotting::Plot;
@@ -17,8 +17,8 @@ const ROOM: i64 = 260;
 
 const ROOM_ABOVE: i64 = 450;
 
-// How wide labels are at most, that of a bound with so many characters in its short name, and how much
-// wider for each more; and where labels end on the right, in tenths.
+// How wide labels are at most, in tenths: in exact steps; by a bound whose short name has so many
+// characters or fewer; and so much wider for each more. On the right they end at the last.
 const EXACT_LABEL: i64 = 1190;
 
 const BOUNDED_LABEL: i64 = 1530;
@@ -101,13 +101,7 @@ fn draw_label<B: Bound, W: Write>(
         right: left.saturating_add(width),
         foot: y.saturating_sub(up.saturating_mul(10)),
     };
-    let lines = labels.put(room)?;
-    let dy = Value::Signed(
-        (LINE / 10)
-            .saturating_mul(lines)
-            .saturating_add(up)
-            .saturating_neg(),
-    );
+    let dy = Value::Signed(labels.put(room)?.saturating_add(up).saturating_neg());
     let (dx, end) = side(right, off);
     let rest = Value::Whole(u64::from(rest));
     let values = [

@@ -1,4 +1,6 @@
 // One of the bounds of a picture: what it is called, how it looks, and the demand by it.
+ghost use Rattle.std.specs.Prelude.{◌≤◌};
+
 use crate::escaping::escape;
 use crate::filling::Value;
 use crate::pictures::BoundCurve;
@@ -9,6 +11,10 @@ use std::alloc::{AllocError, Global};
 
 // The colours of the bounds, from the first on, and then again.
 const COLOURS: [&str; 4] = ["#b5480c", "#0b7a75", "#7b3294", "#6b6b00"];
+
+// The squares of the bounds grow from one to the next up to that at this place; wider ones would not fit
+// the legend.
+const LARGEST: u32 = 2;
 
 // A bound at its place among those of a drawing, from 0, with its names as text of XML.
 #[derive(Drop)]
@@ -72,15 +78,22 @@ impl<'a, B: Bound> Shown<'a, B> {
         Value::Words(COLOURS[self.place as usize % COLOURS.len()])
     }
 
+    // How many sizes its square is above the least.
+    fn size(&self) -> u32
+        ensures { result ≤ LARGEST }
+    {
+        self.place.min(LARGEST)
+    }
+
     // How wide the square at its first rest is: wider than those before it, so that one shows around
     // another.
     pub(crate) fn square(&self) -> i64 {
-        11 + 6 * i64::from(self.place)
+        i64::from(11 + 6 * self.size())
     }
 
     // How far its label stands from the middle of its square.
     pub(crate) fn off(&self) -> i64 {
-        9 + 3 * i64::from(self.place)
+        i64::from(9 + 3 * self.size())
     }
 
     // The demand up to an instant, in parts.

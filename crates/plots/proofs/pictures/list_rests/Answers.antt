@@ -1,4 +1,4 @@
-use Rattle.std.proofs.Common.{◌≡◌, ◌++◌, ◌∙◌, ap}
+use Rattle.std.proofs.Common.{◌≡◌, ℕ, List, ◌++◌, ◌∙◌, ap}
 use Rattle.std.specs.Option.{option_to_list}
 use Rattle.findings.specs.Findings.{load_finding}
 use Rattle.plots.specs.Drawn.{drawn_exact, drawn_window, load_by}
@@ -13,5 +13,6 @@ loop-named-preserved g c =
     let more : c.push_rest-in-loop-named.new.rests.items ≡ before
     ++ option_to_list (load_finding (load_by d named) (drawn_window d)).rest =
     c.in_ok-push_rest-2.ensures ∙ ap (λ o. before ++ option_to_list o) c.rest.ensures in
-    more ∙ filtered_more (λ l. (load_finding l (drawn_window d)).rest) (load_by d) (drawn_exact d) d.bounds.now
-    c.loop-named.named-index named before c.loop-named-test.true c.named-item.is c.loop-named.invariant
+    ◌∙◌ {A = List ℕ} more
+    (filtered_more (λ l. (load_finding l (drawn_window d)).rest) (load_by d) (drawn_exact d) d.bounds.now
+    c.loop-named.named-index named before c.loop-named-test.true c.named-item.is c.loop-named.invariant)
