@@ -14,7 +14,8 @@ use Rattle.views.specs.Troubles.{IsTroubleOf, TellsFault, TellsFlaw, TroubleTell
 
 -- a fault that is told at a number is a refusal of a row
 pub fault_told : (frame : Option FrameNumbers) (bounds : List (Family × ℕ)) (table : TaskTable) (fault : Fault)
-    (t : Trouble) → is_of_row fault.refusal ≡ true → TellsFault table fault t → TroubleTells frame bounds fault.refusal t
+    (t : Trouble) → is_of_row fault.refusal ≡ true → TellsFault table fault t
+    → TroubleTells frame bounds fault.refusal t
 fault_told frame bounds table fault (trouble.Row m) row told = (ap (option_map (λ r. r.refusal)) told.refused, row)
 fault_told frame bounds table fault (trouble.Memory e) row told = tt
 fault_told frame bounds table fault (trouble.Table e) row told = absurd told

@@ -39,7 +39,7 @@ bad_kind [] = None
 bad_kind (b ∷ bounds) = if can_have b.0 b.1 then bad_kind bounds else Some b.0
 
 -- a trouble tells a refusal of numbers: a bad frame that was named, or that there is none where none was named; the
--- first bad accuracy, by the kind of bound that it was named for; or that of a row. Where memory ran out, it is not told
+-- first bad accuracy, by the kind of bound that it is named for; or that of a row. Where memory ran out, it is not told
 abbrev pub TroubleTells : Option FrameNumbers → List (Family × ℕ) → Refusal → Trouble → Type 0
 TroubleTells frame bounds refusal trouble.Frame = (is_some frame ≡ true) × (refusal ≡ BadFrame)
 TroubleTells frame bounds refusal trouble.NoFrame = (frame ≡ None) × (refusal ≡ BadFrame)
