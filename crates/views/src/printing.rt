@@ -219,6 +219,7 @@ fn rest_heading(family: Family) -> &'static str
     match family {
         Family::ExactSteps => "exact rest",
         Family::LinearTail => "linear rest",
+        Family::Staircase => "staircase rest",
     }
 }
 
@@ -229,6 +230,7 @@ fn points_heading(family: Family) -> &'static str
     match family {
         Family::ExactSteps => "exact points",
         Family::LinearTail => "linear points",
+        Family::Staircase => "staircase points",
     }
 }
 
