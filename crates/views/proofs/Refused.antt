@@ -2,7 +2,8 @@
 use Rattle.std.proofs.Common.{◌≡◌, ℕ, ◌<◌, ◌≤◌, Bool, true, false, List, [], ◌∷◌, ◌++◌, length, Option, refl, sym}
 use Rattle.std.proofs.Common.{ap, ◌∙◌, arith, subst}
 use Rattle.std.specs.Prelude.{◌⊎◌}
-use Rattle.std.proofs.lemmas.Bool.{le-ltb}
+use Rattle.std.proofs.lemmas.Bool.{both_ways, le-ltb, not-true}
+use Rattle.task_tables.specs.Refusals.{is_misread}
 use Rattle.std.proofs.lemmas.List.{length-map}
 use Rattle.rows.specs.declared.frames.FrameNumbers.{FrameNumbers}
 use Rattle.rows.specs.declared.refusals.Refusal.{Refusal}
@@ -19,29 +20,14 @@ use Rattle.task_tables.specs.Tables.{ReadsAll, table_numbers}
 use Rattle.views.specs.declared.troubles.Trouble.{Trouble}
 use Rattle.views.specs.declared.troubles.Trouble.TheVariants as trouble
 use Rattle.views.specs.Counted.{CountedTable, IsCountOf, TellsRank}
-use Rattle.views.specs.Troubles.{IsTroubleOf, TroubleTells, TellsFirst, TellsUncounted, is_memory, is_output, of_row}
-use Rattle.views.specs.Troubles.{of_sheet, of_table}
-
--- the first refusal of a table that was read is a trouble of its sheet
-pub sheet_trouble : (held : Option (List ℕ)) (h : Option FrameNumbers) (b : Family × ℕ) (table : TaskTable)
-    (t : Trouble) → ReadsAll held table → TellsFirst h (b ∷ []) table t → IsTroubleOf (of_sheet held h b) t
-sheet_trouble held h b table (trouble.Table e) read refused = absurd refused.told
-sheet_trouble held h b table (trouble.Row m) read refused = record { table = table; read = read; refused = refused }
-sheet_trouble held h b table trouble.Frame read refused = record { table = table; read = read; refused = refused }
-sheet_trouble held h b table trouble.NoFrame read refused = record { table = table; read = read; refused = refused }
-sheet_trouble held h b table (trouble.Accuracy family) read refused =
-    record { table = table; read = read; refused = refused }
-sheet_trouble held h b table (trouble.Rank n) read refused = absurd refused.told
-sheet_trouble held h b table (trouble.Damaged d) read refused = absurd refused.told
-sheet_trouble held h b table (trouble.Different d) read refused = absurd refused.told
-sheet_trouble held h b table (trouble.Input e) read refused = absurd refused.told
-sheet_trouble held h b table (trouble.Output e) read refused = absurd refused.told
-sheet_trouble held h b table (trouble.Memory e) read refused = record { table = table; read = read; refused = refused }
+use Rattle.views.specs.Troubles.{IsTroubleOf, TroubleTells, TellsFirst, TellsUncounted, has_no_room, is_output, of_row}
+use Rattle.views.specs.Troubles.{of_table}
 
 -- a trouble of a table that was read and is not counted is one of the table
 pub table_refused : (held : Option (List ℕ)) (h : Option FrameNumbers) (bs : List (Family × ℕ)) (table : TaskTable)
     (t : Trouble) → ReadsAll held table → TellsUncounted h bs table t → IsTroubleOf (of_table held h bs) t
-table_refused held h bs table (trouble.Table e) read refused = absurd refused.told
+table_refused held h bs table (trouble.Table e) read refused =
+    λ misread. absurd (both_ways (is_misread e) refused misread)
 table_refused held h bs table (trouble.Row m) read refused = record { table = table; read = read; refused = refused }
 table_refused held h bs table trouble.Frame read refused = record { table = table; read = read; refused = refused }
 table_refused held h bs table trouble.NoFrame read refused = record { table = table; read = read; refused = refused }
@@ -52,7 +38,7 @@ table_refused held h bs table (trouble.Damaged d) read refused = absurd refused.
 table_refused held h bs table (trouble.Different d) read refused = absurd refused.told
 table_refused held h bs table (trouble.Input e) read refused = absurd refused.told
 table_refused held h bs table (trouble.Output e) read refused = absurd refused.told
-table_refused held h bs table (trouble.Memory e) read refused = (table, read)
+table_refused held h bs table (trouble.Memory e) read refused = record { table = table; read = read; refused = refused }
 
 -- a trouble of a table is one of the row of a rank
 pub row_refused : (rank : ℕ) (held : Option (List ℕ)) (h : Option FrameNumbers) (bs : List (Family × ℕ)) (t : Trouble)
@@ -87,7 +73,7 @@ told_no_output h bs r (trouble.Memory e) told = refl
 -- a first refusal that is told is what is told of a table that is not counted
 pub first_uncounted : (h : Option FrameNumbers) (bs : List (Family × ℕ)) (table : TaskTable) (t : Trouble)
     → TellsFirst h bs table t → TellsUncounted h bs table t
-first_uncounted h bs table (trouble.Table e) first = first
+first_uncounted h bs table (trouble.Table e) first = absurd first.told
 first_uncounted h bs table (trouble.Row m) first = first
 first_uncounted h bs table trouble.Frame first = first
 first_uncounted h bs table trouble.NoFrame first = first
@@ -97,22 +83,22 @@ first_uncounted h bs table (trouble.Damaged d) first = first
 first_uncounted h bs table (trouble.Different d) first = first
 first_uncounted h bs table (trouble.Input e) first = first
 first_uncounted h bs table (trouble.Output e) first = first
-first_uncounted h bs table (trouble.Memory e) first = tt
+first_uncounted h bs table (trouble.Memory e) first = first
 
--- and so is it that memory ran out
-pub memory_uncounted : (h : Option FrameNumbers) (bs : List (Family × ℕ)) (table : TaskTable) (t : Trouble)
-    → is_memory t ≡ true → TellsUncounted h bs table t
-memory_uncounted h bs table (trouble.Memory e) memory = tt
-memory_uncounted h bs table (trouble.Table e) memory = cc
-memory_uncounted h bs table (trouble.Row m) memory = cc
-memory_uncounted h bs table trouble.Frame memory = cc
-memory_uncounted h bs table trouble.NoFrame memory = cc
-memory_uncounted h bs table (trouble.Accuracy named) memory = cc
-memory_uncounted h bs table (trouble.Rank n) memory = cc
-memory_uncounted h bs table (trouble.Damaged d) memory = cc
-memory_uncounted h bs table (trouble.Different d) memory = cc
-memory_uncounted h bs table (trouble.Input e) memory = cc
-memory_uncounted h bs table (trouble.Output e) memory = cc
+-- and so is it that there was no room
+pub room_uncounted : (h : Option FrameNumbers) (bs : List (Family × ℕ)) (table : TaskTable) (t : Trouble)
+    → has_no_room t ≡ true → TellsUncounted h bs table t
+room_uncounted h bs table (trouble.Table e) room = not-true (is_misread e) room
+room_uncounted h bs table (trouble.Memory e) room = cc
+room_uncounted h bs table (trouble.Row m) room = cc
+room_uncounted h bs table trouble.Frame room = cc
+room_uncounted h bs table trouble.NoFrame room = cc
+room_uncounted h bs table (trouble.Accuracy named) room = cc
+room_uncounted h bs table (trouble.Rank n) room = cc
+room_uncounted h bs table (trouble.Damaged d) room = cc
+room_uncounted h bs table (trouble.Different d) room = cc
+room_uncounted h bs table (trouble.Input e) room = cc
+room_uncounted h bs table (trouble.Output e) room = cc
 
 -- a table that was counted and has no row of a rank lacks it
 pub rank_lacking : (rank : ℕ) (held : Option (List ℕ)) (h : Option FrameNumbers) (bs : List (Family × ℕ))

@@ -1,6 +1,6 @@
 -- What each trouble means.
 use Rattle.std.specs.Prelude.{◌≡◌, ◌≢◌, ℕ, ◌<◌, ◌≤◌, ◌⊎◌, Bool, true, false, List, [], ◌∷◌, length, take, is_some, Some}
-use Rattle.std.specs.Prelude.{None, Option, string_bytes, if◌then◌else◌}
+use Rattle.std.specs.Prelude.{None, Option, not, string_bytes, if◌then◌else◌}
 use Rattle.std.specs.Io.KnownBytes.{Appends, Keeps}
 use Rattle.std.specs.IoError.{error_kind}
 use Rattle.std.specs.declared.io.ErrorKind.TheVariants.{Interrupted}
@@ -76,14 +76,11 @@ pub record TellsRefusal (held : Option (List ℕ)) (frame : Option FrameNumbers)
   pub read : ReadsAll held table
   pub refused : TellsFirst frame bounds table t
 
--- a table was read that is not counted: a trouble tells the first refusal, where memory does not run out
+-- a table was read that is not counted: a trouble tells the first refusal, or that there was no memory for a table that
+-- passes its checks, which is told as of one that could not be read
 abbrev pub TellsUncounted : Option FrameNumbers → List (Family × ℕ) → TaskTable → Trouble → Type 0
-TellsUncounted frame bounds table (trouble.Memory e) = Unit {0}
+TellsUncounted frame bounds table (trouble.Table e) = is_misread e ≡ false
 TellsUncounted frame bounds table t = TellsFirst frame bounds table t
-
--- a table was read
-abbrev pub IsRead : Option (List ℕ) → Type 0
-IsRead held = (table : TaskTable) × ReadsAll held table
 
 -- a table that was read passes its checks and has so many rows, and none of this rank
 pub record LacksRank (held : Option (List ℕ)) (frame : Option FrameNumbers) (bounds : List (Family × ℕ))
@@ -114,12 +111,11 @@ TellsDifference c d (trouble.Memory e) = Unit {0}
 TellsDifference c d _ = ⊥
 
 -- what a view is of: a table that a reader holds, with the frame and the bounds that are named; the row of a rank of
--- such a table; the sheet of such a table, with one bound; the response times of a table that a reader holds; two
--- leaves that readers hold, by their names; one leaf; or what was read before
+-- such a table; the response times of a table that a reader holds; two leaves that readers hold, by their names; one
+-- leaf; or what was read before
 pub data Subject : Type 0 where
   of_table : Option (List ℕ) → Option FrameNumbers → List (Family × ℕ) → Subject
   of_row : ℕ → Option (List ℕ) → Option FrameNumbers → List (Family × ℕ) → Subject
-  of_sheet : Option (List ℕ) → Option FrameNumbers → Family × ℕ → Subject
   of_responses : Option (List ℕ) → Subject
   of_leaves : List ℕ → Option (List ℕ) → List ℕ → Option (List ℕ) → Subject
   of_leaf : Subject
@@ -127,18 +123,14 @@ pub data Subject : Type 0 where
 
 -- what a trouble means, by what the view is of. A table cannot be read: then its text is none, where that is what is
 -- told. Its numbers are refused, or are no rows. It has no row of the rank. A leaf is damaged, the first or else the
--- second. Two leaves differ. An input fails, other than by being interrupted. Of memory it is said at most that a table
--- was read, or is refused, and no other trouble can be
+-- second. Two leaves differ. An input fails, other than by being interrupted. Of memory nothing is said, and no other
+-- trouble can be
 abbrev pub IsTroubleOf : Subject → Trouble → Type 0
 IsTroubleOf (of_table held h bs) (trouble.Table e) = is_misread e ≡ true → ReadsNone held
-IsTroubleOf (of_table held h bs) (trouble.Memory e) = IsRead held
 IsTroubleOf (of_table held h bs) t = TellsRefusal held h bs t
 IsTroubleOf (of_row rank held h bs) (trouble.Table e) = is_misread e ≡ true → ReadsNone held
-IsTroubleOf (of_row rank held h bs) (trouble.Memory e) = IsRead held
 IsTroubleOf (of_row rank held h bs) (trouble.Rank rows) = LacksRank held h bs rank rows
 IsTroubleOf (of_row rank held h bs) t = TellsRefusal held h bs t
-IsTroubleOf (of_sheet held h b) (trouble.Table e) = is_misread e ≡ true → ReadsNone held
-IsTroubleOf (of_sheet held h b) t = TellsRefusal held h (b ∷ []) t
 IsTroubleOf (of_responses held) (trouble.Table e) = is_misread e ≡ true → ReadsNone held
 IsTroubleOf (of_responses held) (trouble.Row m) = IsFlawFor held m
 IsTroubleOf (of_responses held) (trouble.Memory e) = Unit {0}
@@ -155,10 +147,10 @@ IsTroubleOf of_leaf _ = ⊥
 IsTroubleOf of_nothing (trouble.Memory e) = Unit {0}
 IsTroubleOf of_nothing _ = ⊥
 
--- there was no memory
-abbrev pub is_memory : Trouble → Bool
-is_memory (trouble.Memory e) = true
-is_memory _ = false
+-- there was no memory for a table
+abbrev pub has_no_room : Trouble → Bool
+has_no_room (trouble.Table e) = not (is_misread e)
+has_no_room _ = false
 
 -- a trouble of writing, and not of what came before
 abbrev pub is_output : Trouble → Bool

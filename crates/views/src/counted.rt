@@ -7,7 +7,7 @@ ghost use Rattle.filings.specs.Checks.{bound_check, bound_checks};
 ghost use Rattle.filings.specs.Filings.{filed};
 ghost use Rattle.task_tables.specs.Tables.{ReadsAll};
 ghost use Rattle.views.specs.Counted.{IsCountOf, IsFiledLeaf, counted_table};
-ghost use Rattle.views.specs.Troubles.{IsTroubleOf, TellsUncounted, TroubleTells, bad_kind, is_memory, of_table};
+ghost use Rattle.views.specs.Troubles.{IsTroubleOf, TellsUncounted, TroubleTells, bad_kind, has_no_room, of_table};
 
 use crate::explained::explained;
 use crate::troubles::Trouble;
@@ -18,7 +18,7 @@ use sheets::MOST_ANSWER;
 use std::alloc::{AllocError, Global};
 use std::io::Read;
 use std::marker::Model;
-use task_tables::{TaskTable, read};
+use task_tables::{ReadError, TaskTable, read};
 
 /// How a table is counted: on which frame, where one is named, else on the least common multiple of the
 /// periods; and beside exact steps by which bounds, each named by its kind and an accuracy, which is 0 where
@@ -63,7 +63,7 @@ impl Model for Counted {
 /// Where something is refused, the first of these is told: what cannot be taken of the text, and 9, full
 /// table; 1, bad frame, where one is named; 3, bad accuracy, of the first bound that has one; 4 to 8 of the
 /// rows; and last 1, bad frame, where none is named and the periods have no common multiple up to the
-/// horizon.
+/// horizon. Where there is no memory for the counts, it is told as of a table that could not be read.
 pub fn count_table<R: Read, P: Progress>(
     alloc: Global,
     reader: &mut R,
@@ -108,7 +108,7 @@ fn count_judged<P: Progress>(
 ) -> Result<Counted, Trouble>
     requires { Passes (bound_checks bounds.now) }
     ensures counted { IfOk result (λ c. c ≡ counted_table table judged.now.frame judged.now.rows bounds.now) }
-    ensures memory { IfErr result (λ t. is_memory t ≡ true) }
+    ensures room { IfErr result (λ t. has_no_room t ≡ true) }
 {
     match count_each(alloc, bounds, judged, progress) {
         Ok(bounded) => {
@@ -119,7 +119,7 @@ fn count_judged<P: Progress>(
                 bounded,
             })
         }
-        Err(error) => Err(Trouble::Memory(error)),
+        Err(error) => Err(Trouble::Table(ReadError::Memory(error))),
     }
 }
 

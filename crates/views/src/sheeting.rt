@@ -1,7 +1,7 @@
 // The sheet of a task table.
 ghost use Rattle.std.specs.Prelude.{◌≤◌, ◌∷◌, [], length, take, IfOk, OnOk, IfErr};
 ghost use Rattle.views.specs.Sheeted.{IsSheetFor, IsSheetOf};
-ghost use Rattle.views.specs.Troubles.{Fails, TellsFirst, Writes, of_sheet};
+ghost use Rattle.views.specs.Troubles.{Fails, TellsFirst, Writes, of_table};
 
 use crate::counted::{Counting, trouble};
 use crate::outputs::write_out;
@@ -29,7 +29,7 @@ pub fn sheet<R: Read, W: Write>(
     ensures written { OnOk result (Writes (IsSheetFor frame bound (R.remaining reader.old))
         (W.contents writer.old) (W.contents writer.new)) }
     ensures failed { IfErr result (λ t. Fails (IsSheetFor frame bound (R.remaining reader.old))
-        (of_sheet (R.remaining reader.old) frame bound)
+        (of_table (R.remaining reader.old) frame (bound ∷ []))
         (W.contents writer.old) (W.contents writer.new) t) }
 {
     let mut buffer = [0; MOST_SHEET];

@@ -6,7 +6,7 @@ use Rattle.filings.specs.Checks.{filing_checks}
 use Rattle.filings.proofs.Order.{bounds_passed}
 use Rattle.views.proofs.BadKinds.{accuracy_bad}
 use Rattle.views.proofs.Counts.{counted_is}
-use Rattle.views.proofs.Refused.{first_uncounted, memory_uncounted}
+use Rattle.views.proofs.Refused.{first_uncounted, room_uncounted}
 use Rattle.views.proofs.counted.count_read.Goals as goal
 
 pub count_judged-requires : goal.count_judged-requires
@@ -38,8 +38,8 @@ returns-in-Ok-clause-counted g c =
 pub returns-in-Ok-clause-refused : goal.returns-in-Ok-clause-refused
 returns-in-Ok-clause-refused g c =
     IfErr-weaker c.count_judged.result _ _
-    (λ t memory. memory_uncounted c.args.how.frame c.args.how.bounds.now c.args.table t memory)
-    c.count_judged.ensures.memory
+    (λ t room. room_uncounted c.args.how.frame c.args.how.bounds.now c.args.table t room)
+    c.count_judged.ensures.room
 
 pub returns-in-Err-clause-refused : goal.returns-in-Err-clause-refused
 returns-in-Err-clause-refused g c =
