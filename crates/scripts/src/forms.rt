@@ -1,5 +1,5 @@
 // The forms that a line may have, and the numbers that stand in them.
-ghost use Rattle.std.specs.Prelude.{◌≡◌, ◌≤◌, true, Some, length};
+ghost use Rattle.std.specs.Prelude.{◌≡◌, ◌≤◌, true, false, Some, length};
 ghost use Rattle.scripts.specs.Forms.{field_text, form_fields, form_for, forms_once, form_name, form_text};
 
 use bounds::Family;
@@ -79,6 +79,13 @@ impl LineForm {
         ]
     }
 
+    // The forms that name a bound, one for each kind.
+    fn bounds() -> [LineForm; Family::ALL.len()]
+        ensures { result ≡ forms_once false }
+    {
+        Family::all().map(LineForm::Bound)
+    }
+
     // The form that a line may have and that its first word names: until a bound has been named one that
     // names it, and then a call.
     pub(crate) fn of(word: &[u8], named: bool) -> Option<LineForm>
@@ -90,9 +97,9 @@ impl LineForm {
                 .copied()
                 .find(|form| form.name() == word)
         } else {
-            Family::all()
-                .into_iter()
-                .map(LineForm::Bound)
+            LineForm::bounds()
+                .iter()
+                .copied()
                 .find(|form| form.name() == word)
         }
     }
