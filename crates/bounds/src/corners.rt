@@ -47,10 +47,11 @@ impl Walk for Corners<'_> {
         self.at
     }
 
-    fn go_on(&mut self) {
+    fn go_on(&mut self) -> u32 {
         let (row, accuracy) = (self.row, self.accuracy);
         let jobs = self.jobs + self.stride;
-        let at = self.at + self.stride * row.period;
+        let far = self.stride * row.period;
+        let at = self.at + far;
         let stride = self.next_stride();
         *self = Corners {
             row,
@@ -59,5 +60,6 @@ impl Walk for Corners<'_> {
             stride,
             at,
         };
+        far
     }
 }

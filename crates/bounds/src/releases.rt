@@ -82,7 +82,9 @@ pub(crate) fn rise_after_by(row: &Row, ratio: u32, after: u32, last: u32) -> Opt
 #[derive(Drop)]
 struct Rises<'a> {
     row: &'a Row,
+    period: u32,
     at: u32,
+    ghost same: { period ≡ row.now.period },
     ghost rise: { IsTrue (is_rise row.now at) },
 }
 
@@ -96,9 +98,11 @@ impl Walk for Rises<'_> {
     }
 
     #[tactic(auto, using(crate::proofs::Rises::period_later))]
-    fn go_on(&mut self) {
-        let (row, at) = (self.row, self.at + self.row.period);
-        *self = Rises { row, at };
+    fn go_on(&mut self) -> u32 {
+        let (row, period) = (self.row, self.period);
+        let at = self.at + period;
+        *self = Rises { row, period, at };
+        period
     }
 }
 
@@ -114,6 +118,6 @@ pub(crate) fn mark_rises(row: &Row, after: u32, last: u32, marks: &mut [bool]) -
     if after >= last {
         return None;
     }
-    let at = early_rise(row, after);
-    mark_along(&mut Rises { row, at }, after, last, marks)
+    let (period, at) = (row.period, early_rise(row, after));
+    mark_along(Rises { row, period, at }, after, last, marks)
 }

@@ -165,7 +165,7 @@ impl Bound for Staircase {
         if after >= HORIZON {
             return None;
         }
-        mark_along(&mut self.corners_after(row, after), after, HORIZON, marks)
+        mark_along(self.corners_after(row, after), after, HORIZON, marks)
     }
 
     #[tactic(auto, using(crate::proofs::Marking::least_over))]
