@@ -30,7 +30,7 @@ store() {
 }
 
 # The questions of all kinds, and their answers.
-for kind in leaf sheet row long script; do
+for kind in leaf sheet row long script last; do
     python3 "reference/${kind}_vectors.py" >>"$made/questions"
     python3 "reference/${kind}_vectors.py" --answers >>"$made/answers"
 done

@@ -68,6 +68,14 @@ def number_at(data, offset):
     )
 
 
+def last_number(data):
+    """Read from the end, bytes are answered either ('number', the number in the last four, the part before them) or,
+    where there are fewer than four, ('refused', number, place)."""
+    if len(data) < 4:
+        return ('refused', CUT_LEAF, 0)
+    return ('number', number_at(data, len(data) - 4), data[: len(data) - 4])
+
+
 def check_heading(frame, bound, accuracy):
     """The refusal of a heading's fields, or None."""
     if frame == 0 or frame > HORIZON:
@@ -222,6 +230,16 @@ def write_leaf(frame, bound, accuracy, rows, findings):
         data += write_finding(*finding)
     data += write_end(1 + len(rows) + len(findings))
     return data
+
+
+# --- From the last field back ------------------------------------------------------------------------------
+
+
+def finding_bodies(data, rows):
+    """The bodies of the findings of a leaf of so many rows, without their letters."""
+    first = LENGTH[HEADING] + LENGTH[ROW] * rows
+    places = [first + LENGTH[FINDING] * index for index in range(rows)]
+    return [data[place + 1 : place + LENGTH[FINDING]] for place in places]
 
 
 # --- Telling -----------------------------------------------------------------------------------------------

@@ -1,4 +1,4 @@
-// Bytes that a call put into a buffer.
+// Bytes that a call put into a buffer, and how bytes are told.
 ghost use Rattle.std.specs.Prelude.{◌≡◌, replicate, IfOk};
 
 use crate::told::write_refused;
@@ -46,6 +46,20 @@ impl fmt::Display for Put<'_> {
             write_bytes(f, behind)?;
         }
         Ok(())
+    }
+}
+
+/// Bytes, of which there may be none.
+#[derive(Clone, Copy)]
+pub(crate) struct BytesOrNone<'a>(pub(crate) &'a [u8]);
+
+// The bytes in hexadecimal, or "-".
+impl fmt::Display for BytesOrNone<'_> {
+    fn fmt<W: fmt::Write>(&self, f: &mut fmt::Formatter<W>) -> fmt::Result {
+        match self.0 {
+            [] => write!(f, "-"),
+            bytes => write_bytes(f, bytes),
+        }
     }
 }
 

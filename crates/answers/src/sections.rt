@@ -1,4 +1,5 @@
 // Sections: stored questions of one kind.
+use crate::last_answers::{answer_backwards, answer_last};
 use crate::leaf_answers::{answer_changes, answer_cuts, answer_leaf};
 use crate::row_answers::{answer_by, answer_by_tail};
 use crate::row_questions::{with_batches, with_staircase, with_tail};
@@ -9,15 +10,17 @@ use std::alloc::Global;
 use std::io::Write;
 use std::str;
 
-/// A section, by what is asked in it: about strings of bytes as leaves, each as it stands there, cut
-/// at every length, or with each byte changed to every value; about strings of bytes as
-/// sheets; about rows, by linear tails, by batches or by staircases; or about one script, with its lines as far as they
-/// have come.
+/// A section, by what is asked in it: about strings of bytes as leaves, each as it stands there, cut at every length, with
+/// each byte changed to every value, or from the last field of each finding back; about the numbers that strings of bytes
+/// end in; about strings of bytes as sheets; about rows, by linear tails, by batches or by staircases; or about one script,
+/// with its lines as far as they have come.
 #[derive(Drop)]
 pub(crate) enum Section {
     Leaves,
     LeavesCut,
     LeavesChanged,
+    LeavesBackwards,
+    LastNumbers,
     Sheets,
     Rows,
     RowsInBatches,
@@ -35,6 +38,8 @@ impl Section {
             ["===", "leaves"] => Ok(Section::Leaves),
             ["===", "leaves", "cut"] => Ok(Section::LeavesCut),
             ["===", "leaves", "changed"] => Ok(Section::LeavesChanged),
+            ["===", "leaves", "backwards"] => Ok(Section::LeavesBackwards),
+            ["===", "last", "numbers"] => Ok(Section::LastNumbers),
             ["===", "sheets"] => Ok(Section::Sheets),
             ["===", "rows"] => Ok(Section::Rows),
             ["===", "rows", "batches"] => Ok(Section::RowsInBatches),
@@ -55,6 +60,8 @@ impl Section {
             Section::Leaves => answer_leaf(alloc, &decoded(alloc, line)?, writer),
             Section::LeavesCut => answer_cuts(alloc, &decoded(alloc, line)?, writer),
             Section::LeavesChanged => answer_changes(alloc, &decoded(alloc, line)?, writer),
+            Section::LeavesBackwards => answer_backwards(&decoded(alloc, line)?, writer),
+            Section::LastNumbers => answer_last(&decoded(alloc, line)?, writer),
             Section::Sheets => answer_in_buffers(alloc, &decoded(alloc, line)?, writer),
             Section::Rows => {
                 let (tail, question) = with_tail(alloc, line)?;

@@ -18,6 +18,8 @@ mod filed;
 #[cfg(test)]
 mod judged;
 #[cfg(test)]
+mod last_numbers;
+#[cfg(test)]
 mod recounted;
 #[cfg(test)]
 mod searched;

@@ -1,10 +1,11 @@
 -- The bodies of entries are known by their fields.
-use Rattle.std.proofs.Common.{◌≡◌, ℕ, ◌^◌, ◌<◌, true, not, eqb, leb, List, ◌++◌, drop, unwrap_or, sym, refl, ap, ◌∙◌}
+use Rattle.std.proofs.Common.{◌≡◌, ℕ, ◌^◌, ◌<◌, true, not, eqb, leb, List, [], ◌++◌, drop, unwrap_or, sym, refl, ap, ◌∙◌}
 use Rattle.std.proofs.Common.{arith, if◌then◌else◌}
 use Rattle.std.proofs.lemmas.Nat.{from_be_bytes-to_be_bytes_4}
 use Rattle.std.proofs.lemmas.Bool.{and_parts, cond-false, leb-true, ne_eqb, not-false, or_parts}
 use Rattle.rows.specs.declared.tasks.Row.{Row}
 use Rattle.rows.specs.Judging.{plain}
+use Rattle.rows.specs.Answers.{gives}
 use Rattle.rows.specs.Frames.{frame_of}
 use Rattle.rows.specs.Times.{horizon}
 use Rattle.rows.proofs.SameRow.{same_row}
@@ -19,7 +20,7 @@ use Rattle.leaves.specs.Headings.{heading_plain}
 use Rattle.leaves.specs.Judging.{is_in_range, IsFilable}
 use Rattle.leaves.specs.Entries.{heading_body, row_body, finding_body, heading_size, row_size, finding_size, end_size}
 use Rattle.leaves.proofs.SameHeading.{frame_near, same_heading}
-use Rattle.leaves.specs.Fields.{heading_fields, row_fields, finding_fields}
+use Rattle.leaves.specs.Fields.{heading_fields, row_fields, finding_fields, TellsBackwards}
 
 -- the fields of a body are what it was made of
 pub heading_again : (h : Heading) (xs : List ℕ)
@@ -58,6 +59,23 @@ finding_again f xs filable =
     let verdict = verdict_again f.verdict (four f.points ++ xs) (not-false _ parts.1) in
     let points = from_be_bytes-to_be_bytes_4 f.points filable.fits in
     λ i. record { verdict = verdict i; points = points i }
+
+-- the number that stands for a verdict fits four bytes
+rest_fits : (v : Verdict) → is_in_range (verdict_rest v) ≡ true → unwrap_or (verdict_rest v) 0 < 2 ^ 32
+rest_fits Misses fits = omega arith
+rest_fits (Meets t) fits = omega (arith, leb-true t horizon (and_parts (leb 1 t) (leb t horizon) fits).1)
+
+-- the body of a finding tells it from its last field back
+pub finding_backwards : (f : Finding) → IsFilable f → TellsBackwards (finding_body (tells f)) (tells f)
+finding_backwards f filable =
+    let parts = or_parts (eqb f.points 0) (not (is_in_range (verdict_rest f.verdict))) filable.good in
+    let rest = rest_fits f.verdict (not-false _ parts.1) in
+    record {
+      before = four (unwrap_or (verdict_rest f.verdict) 0);
+      points = ap (λ n. gives (n, four (unwrap_or (verdict_rest f.verdict) 0)))
+          (from_be_bytes-to_be_bytes_4 f.points filable.fits);
+      rest = ap (λ n. gives (n, [])) (from_be_bytes-to_be_bytes_4 (unwrap_or (verdict_rest f.verdict) 0) rest);
+    }
 
 -- bodies that begin the same bytes are the same, and so is what follows them
 pub heading_once : (g h : Heading) (xs ys : List ℕ)

@@ -1,11 +1,14 @@
 -- What stands in the body of an entry.
-use Rattle.std.specs.Prelude.{ℕ, List, slice_index, ◌==◌, if◌then◌else◌}
+use Rattle.std.specs.Prelude.{◌≡◌, ℕ, List, [], slice_index, ◌==◌, if◌then◌else◌}
+use Rattle.std.specs.Option.{unwrap_or}
+use Rattle.rows.specs.Answers.{gives}
+use Rattle.rows.specs.Found.{Found}
 use Rattle.rows.specs.Frames.{frame_of}
 use Rattle.rows.specs.declared.tasks.Numbers.{Numbers}
 use Rattle.rows.specs.declared.verdicts.Finding.{Finding}
 use Rattle.rows.specs.declared.verdicts.Verdict.TheVariants.{Meets, Misses}
 use Rattle.leaves.specs.declared.entries.HeadingNumbers.{HeadingNumbers}
-use Rattle.leaves.specs.Bytes.{number_at}
+use Rattle.leaves.specs.Bytes.{number_at, last_number}
 
 -- the numbers in the body of F
 abbrev pub heading_fields : List ℕ → HeadingNumbers
@@ -30,3 +33,10 @@ finding_fields body = record {
   verdict = if number_at 0 body == 0 then Misses else Meets (number_at 0 body);
   points = number_at 4 body;
 }
+
+-- from its last field back the body of A tells what was found: first the points, then, in the bytes before them, the
+-- first rest, 0 where the row misses, and no byte is left
+pub record TellsBackwards (body : List ℕ) (f : Found) : Type 0 where
+  pub before : List ℕ
+  pub points : last_number body ≡ gives (f.points, before)
+  pub rest : last_number before ≡ gives (unwrap_or f.rest 0, [])

@@ -13,7 +13,7 @@ ghost use Rattle.leaves.specs.Fields.{heading_fields, row_fields, finding_fields
 ghost use Rattle.reading.specs.Bodies.{body_of, AreOfSize};
 ghost use Rattle.reading.specs.Checks.{cut};
 
-use leaves::HeadingNumbers;
+use leaves::{FINDING_SIZE, HeadingNumbers, last_number};
 use rows::{Fault, Finding, FrameNumbers, Numbers, Refusal, Verdict};
 
 // Whether the bytes after the kind byte at a place are enough for a body of some size.
@@ -79,19 +79,18 @@ pub(crate) fn row_fields(body: &[u8]) -> Numbers
     }
 }
 
-// A finding, in which a first rest of 0 is a miss.
+// A finding, in which a first rest of 0 is a miss, taken from its last field back.
 pub(crate) fn finding_fields(body: &[u8]) -> Finding
     requires { finding_size ≤ length body.now }
     ensures answered { result ≡ finding_fields body.now }
     ensures same { body.now ≡ finding_body (tells result) ++ drop finding_size body.now }
     ensures fits { result.points < 2 ^ 32 }
 {
-    let verdict = match number_at(body, 0) {
+    let (points, before) = last_number(&body[..FINDING_SIZE]).unwrap();
+    let (rest, _) = last_number(before).unwrap();
+    let verdict = match rest {
         0 => Verdict::Misses,
         rest => Verdict::Meets(rest),
     };
-    Finding {
-        verdict,
-        points: number_at(body, 4),
-    }
+    Finding { verdict, points }
 }

@@ -44,12 +44,15 @@ impl<'a> Iterator for RowsWithFindings<'a> {
 }
 
 impl<'a> Leaf<'a> {
-    ghost use Rattle.std.specs.Prelude.{◌≡◌, ◌==◌, length};
+    ghost use Rattle.std.specs.Prelude.{◌≡◌, ◌==◌, length, Some, IfSome};
     ghost use Rattle.std.specs.Option.{option_map};
     ghost use Rattle.rows.specs.Judging.{plain};
     ghost use Rattle.rows.specs.Lists.{at_rank};
     ghost use Rattle.rows.specs.Found.{tells};
+    ghost use Rattle.rows.specs.declared.verdicts.Finding.{Finding};
     ghost use Rattle.leaves.specs.Contents.{Contents};
+    ghost use Rattle.leaves.specs.Entries.{finding_body, finding_size};
+    ghost use Rattle.leaves.specs.Fields.{TellsBackwards};
     ghost use Rattle.reading.specs.Told.{told, told_of, all_told, still_told};
     ghost use Rattle.reading.specs.Leaves.{heading_of, row_bytes, finding_bytes, Holds, HoldsSome};
 
@@ -93,8 +96,23 @@ impl<'a> Leaf<'a> {
         ensures { (c : Contents) → Holds self.now c →
             option_map tells result ≡ option_map tells (at_rank rank c.findings) }
     {
-        let body = body_at(self.findings, FINDING_SIZE, rank)?;
+        let body = self.finding_body(rank)?;
         Some(finding_fields(body))
+    }
+
+    /// The body of the finding about the row of a rank: eight bytes, without the letter, a part of the
+    /// bytes that the leaf was read from. `leaves::last_number` answers the points of it, and of the
+    /// part before them the first rest, 0 where the row misses, and no byte is left (docs/FORMAT.md,
+    /// From the last field back). The first row has rank 1; there is no finding at rank 0 and past the
+    /// last.
+    pub fn finding_body(&self, rank: usize) -> Option<&'a [u8]>
+        ensures body { (c : Contents) → Holds self.now c → option_map (λ b. b.now) result
+            ≡ option_map (λ f. finding_body (tells f)) (at_rank rank c.findings) }
+        ensures backwards { (c : Contents) (f : Finding) → Holds self.now c →
+            at_rank rank c.findings ≡ Some f → IfSome result (λ b. TellsBackwards b.now (tells f)) }
+        ensures sized { IfSome result (λ b. length b.now ≡ finding_size) }
+    {
+        body_at(self.findings, FINDING_SIZE, rank)
     }
 
     // The row of a rank and its finding, both of which are there or neither.
