@@ -1,10 +1,10 @@
 //! Asks the library stored questions from standard input, and prints its answers (docs/PROGRAMS.md).
 //!
 //! A line `=== KIND` stands before the questions of a kind, and is printed before their answers:
-//! `=== leaves`, `=== leaves cut`, `=== leaves changed`, `=== leaves backwards`, `=== last numbers`, `=== sheets`,
-//! `=== rows`, `=== rows batches` or `=== rows staircase` before lines that are a question each, and `=== script N` before
-//! the lines of one script. `reference/` makes the questions, and the answers that are wanted, by docs/ alone. Nothing is
-//! compared here.
+//! `=== leaves`, `=== leaves cut`, `=== leaves changed`, `=== leaves backwards`, `=== last numbers`,
+//! `=== sheets`, `=== rows`, `=== rows batches` or `=== rows staircase` before lines that are a question
+//! each, and `=== script N` before the lines of one script. `reference/` makes the questions, and the
+//! answers that are wanted, by docs/ alone. Nothing is compared here.
 #![tactic(auto)]
 
 mod filing;

@@ -10,10 +10,11 @@ use std::alloc::Global;
 use std::io::Write;
 use std::str;
 
-/// A section, by what is asked in it: about strings of bytes as leaves, each as it stands there, cut at every length, with
-/// each byte changed to every value, or from the last field of each finding back; about the numbers that strings of bytes
-/// end in; about strings of bytes as sheets; about rows, by linear tails, by batches or by staircases; or about one script,
-/// with its lines as far as they have come.
+/// A section, by what is asked in it: about strings of bytes as leaves, each as it stands there, cut
+/// at every length, with each byte changed to every value, or from the last field of each finding back;
+/// about the numbers that strings of bytes end in; about strings of bytes as sheets; about rows, by
+/// linear tails, by batches or by staircases; or about one script, with its lines as far as they have
+/// come.
 #[derive(Drop)]
 pub(crate) enum Section {
     Leaves,

@@ -10,7 +10,7 @@ use rows::{Fault, Refusal};
 /// fewer than four.
 pub fn last_number(bytes: &[u8]) -> Result<(u32, &[u8]), Fault>
     ensures answered { answer (λ p. (p.0, p.1.now)) result ≡ last_number bytes.now }
-    ensures again { IfOk result (λ p. bytes.now ≡ p.1.now ++ four p.0) }
+    ensures ends { IfOk result (λ p. bytes.now ≡ p.1.now ++ four p.0) }
 {
     let (before, last) = bytes.split_last_chunk::<4>().ok_or(Refusal::CutLeaf.at(0))?;
     Ok((u32::from_be_bytes(*last), before))
